@@ -1,0 +1,63 @@
+// Compass angles and their spelling on the bus: half degrees (53, 89) and whole degrees with the turning way (9C).
+ghost use mathlib.Core.Path.{_≡_};
+ghost use Rattle.angle.specs.Half.{halfAngle, halfDigits};
+ghost use Rattle.angle.specs.Degree.{wholeAngle, turnsRight, wholeDigits, digitsFrom};
+ghost use Prim.Native.Nat.{_≤_};
+
+// The digit U and the six low bits of VW that spell an angle.
+pub struct Digits {
+    pub u: u8,
+    pub six: u8,
+}
+
+// The half degrees that U and six spell.
+pub fn half_angle(u: u8, six: u8) -> u32
+    ensures { λ r. ⌜ r ≡ halfAngle u six ⌝ }
+{
+    180 * (u as u32 % 4) + 4 * (six as u32) + u as u32 / 4
+}
+
+// The spelling of half degrees.
+pub fn half_digits(halves: u32) -> Digits
+    ensures { λ r. ⌜ r ≡ halfDigits halves ⌝ }
+{
+    Digits {
+        u: (halves / 180 % 4 + 4 * (halves % 4)) as u8,
+        six: (halves % 180 / 4) as u8,
+    }
+}
+
+// The whole degrees that U and six spell.
+pub fn whole_angle(u: u8, six: u8) -> u32
+    ensures { λ r. ⌜ r ≡ wholeAngle u six ⌝ }
+{
+    (90 * (u as u32 % 4) + 2 * (six as u32) + (u as u32 / 8 % 2 + u as u32 / 4 % 2)) % 360
+}
+
+// Whether U says that the ship turns right.
+pub fn turns_right(u: u8) -> bool
+    ensures { λ r. ⌜ r ≡ turnsRight u ⌝ }
+{
+    u / 8 % 2 == 1
+}
+
+// The spelling of whole degrees with the turning way.
+pub fn whole_digits(degrees: u32, right: bool) -> Digits
+    ensures { λ r. ⌜ r ≡ wholeDigits degrees right ⌝ }
+{
+    if right {
+        digits_from((degrees % 360 + 359) % 360, 8)
+    } else {
+        digits_from(degrees % 360, 0)
+    }
+}
+
+fn digits_from(degrees: u32, high: u8) -> Digits
+    requires { ⌜ high ≤ 8 ⌝ }
+    ensures { λ r. ⌜ r ≡ digitsFrom degrees high ⌝ }
+{
+    Digits {
+        u: (degrees / 90 % 4 + 4 * (degrees % 2)) as u8 + high,
+        six: (degrees % 90 / 2) as u8,
+    }
+}

@@ -1,0 +1,103 @@
+-- `hear` makes the definition's tests in the definition's order; a stray leaves the state, which is sound and so the empty one.
+use borrow.Author.Needs.{needs}
+use borrow.Author.Tests.{lt-ltb, le-ltb, le-leb, lt-leb, not-true, not-false}
+use Prim.Native.Nat.{ℕ}
+use mathlib.Core.Bool.{true, false}
+use mathlib.Core.Path.{_≡_, sym, _∙_, ap}
+use mathlib.Core.List.{[]}
+use native.Mathlib.Omega.{arith}
+use lib.ListN.{length}
+use Rattle.listener.specs.declared.Listener.{Listener}
+use Rattle.listener.specs.declared.Answer.the-variants.{Stray}
+use Rattle.listener.specs.State.{sound, heldBytes, holding}
+use Rattle.listener.specs.Step.{hearOf, step, quiet, otherSymbol}
+use Rattle.listener.proofs.Sound.{held-by, holding-held}
+use Rattle.listener.proofs.hear.Statement.{statement}
+use Rattle.listener.proofs.hear.Tie as tie
+
+-- a sound state with none held is the empty one
+strays : (l : Listener) (b : ℕ) → length (l .bytes) ≡ 17 → sound l ≡ true → l .held ≡ 0 → quiet Stray l ≡ otherSymbol (heldBytes l) b
+strays l b long s e =
+    let same : l ≡ holding [] = sym (holding-held l (held-by l long s)) ∙ rw e in
+    ap (λ (k : Listener). quiet Stray k) same ∙ rw e
+
+past-sound : (c : tie.Else2) → sound (c .before .before .before .args .l) ≡ true
+past-sound c = sym (c .before .is-sound .ensures) ∙ not-false _ (c .if2 .left)
+
+-- past the refusals the step is taken
+steps : (c : tie.Else2) → let a = c .before .before .before .args in hearOf (a .l) (a .symbol) ≡ step (heldBytes (a .l)) (a .symbol)
+unfolding hearOf
+steps c = rw (le-ltb 511 (c .before .before .before .args .symbol) (omega arith), past-sound c)
+
+-- past the command symbols it is another symbol's
+others : (c : tie.Else3) → let a = c .before .before .before .before .args in hearOf (a .l) (a .symbol) ≡ otherSymbol (heldBytes (a .l)) (a .symbol)
+unfolding step
+others c = steps (c .before) ∙ rw (lt-leb 256 (c .before .before .before .before .args .symbol) (omega arith))
+
+refused-requires : tie.Need-refused-requires
+refused-requires c κs = search needs
+
+returns : tie.Need-returns
+unfolding hearOf
+returns c = c .refused .ensures ∙ rw (lt-ltb 511 (c .before .before .args .symbol) (omega arith))
+
+is-sound-requires : tie.Need-is-sound-requires
+is-sound-requires c κs = search needs
+
+refused-requires-2 : tie.Need-refused-requires-2
+refused-requires-2 c κs = search needs
+
+returns-2 : tie.Need-returns-2
+unfolding hearOf
+returns-2 c =
+    let a = c .before .before .before .before .args in
+    let unsound : sound (a .l) ≡ false = sym (c .before .before .is-sound .ensures) ∙ not-true _ (c .before .if2 .taken) in
+    c .refused2 .ensures ∙ rw (le-ltb 511 (a .symbol) (omega arith), unsound)
+
+cast-opened : tie.Need-cast-opened
+cast-opened c = search needs
+
+opened-requires : tie.Need-opened-requires
+opened-requires c κs = search needs
+
+returns-3 : tie.Need-returns-3
+unfolding step
+returns-3 c =
+    let w = c .before .before in
+    c .opened .ensures ∙ sym (steps w ∙ rw (le-leb 256 (w .before .before .before .args .symbol) (omega arith)))
+
+without-bytes-requires : tie.Need-without-bytes-requires
+without-bytes-requires c κs = search needs
+
+returns-4 : tie.Need-returns-4
+returns-4 c =
+    let w = c .before .before .before in
+    let a = w .before .before .before .before .args in
+    c .without-bytes .ensures ∙ strays (a .l) (a .symbol) (search needs) (past-sound (w .before)) (omega arith) ∙ sym (others w)
+
+cast-extended : tie.Need-cast-extended
+cast-extended c = search needs
+
+extended-requires : tie.Need-extended-requires
+extended-requires c κs = (past-sound (c .before .before .before), search needs)
+
+returns-5 : tie.Need-returns-5
+returns-5 c = c .extended .ensures ∙ sym (others (c .before .before .before))
+
+pub hear-spec : {M : Type 1} → statement M
+hear-spec =
+    tie.close
+    (tie.spec
+    refused-requires
+    returns
+    is-sound-requires
+    refused-requires-2
+    returns-2
+    cast-opened
+    opened-requires
+    returns-3
+    without-bytes-requires
+    returns-4
+    cast-extended
+    extended-requires
+    returns-5)

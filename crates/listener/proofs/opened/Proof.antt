@@ -1,0 +1,58 @@
+-- `opened` stores the byte into a silent state, and answers by whether anything was held.
+use borrow.Author.Needs.{needs}
+use Prim.Native.Nat.{ℕ, _<_}
+use mathlib.Core.Path.{_≡_, refl, _∙_}
+use mathlib.Core.List.{List, [], _∷_}
+use native.Mathlib.Omega.{arith}
+use lib.ListN.{length, set, length-take}
+use Rattle.datagram.proofs.Padding.{set-pad}
+use Rattle.listener.specs.declared.Listener.{Listener}
+use Rattle.listener.specs.declared.Answer.the-variants.{Cancelled}
+use Rattle.listener.specs.State.{heldBytes, holding}
+use Rattle.listener.specs.Step.{commandSymbol, quiet}
+use Rattle.listener.proofs.opened.Statement.{statement}
+use Rattle.listener.proofs.opened.Tie as tie
+
+cancels : (xs : List ℕ) (b : ℕ) → 0 < length xs → commandSymbol xs b ≡ quiet Cancelled (holding (b ∷ []))
+cancels [] b h = absurd (omega arith)
+cancels (x ∷ xs) b h = refl
+
+alone : (s : Listener) (b : ℕ) → s ≡ holding [] → _≡_ {A = Listener} (record { bytes = set (s .bytes) 0 b; held = 1 }) (holding (b ∷ []))
+alone s b e = rw (e, set-pad 17 [] 0 b refl (omega arith))
+
+silent-requires : tie.Need-silent-requires
+silent-requires c κs = search needs
+
+element-write-next : tie.Need-element-write-next
+element-write-next c = search needs
+
+without-bytes-requires : tie.Need-without-bytes-requires
+without-bytes-requires c κs = search needs
+
+without-bytes-requires-2 : tie.Need-without-bytes-requires-2
+without-bytes-requires-2 c κs = search needs
+
+returns : tie.Need-returns
+returns c =
+    let w = c .before .before .before in
+    c .without-bytes .ensures ∙ rw (c .before .if1 .taken, alone (w .silent .result) (w .before .args .byte) (w .silent .ensures))
+
+returns-2 : tie.Need-returns-2
+returns-2 c =
+    let w = c .before .before .before in
+    let l = w .before .args .l in
+    let long : length (l .bytes) ≡ 17 = search needs in
+    let some : 0 < length (heldBytes l) = rw length-take (omega arith) in
+    c .without-bytes2 .ensures
+    ∙ rw (cancels (heldBytes l) (w .before .args .byte) some, alone (w .silent .result) (w .before .args .byte) (w .silent .ensures))
+
+pub opened-spec : {M : Type 1} → statement M
+opened-spec =
+    tie.close
+    (tie.spec
+    silent-requires
+    element-write-next
+    without-bytes-requires
+    without-bytes-requires-2
+    returns
+    returns-2)

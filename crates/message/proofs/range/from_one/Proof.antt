@@ -1,0 +1,22 @@
+-- `from_one` refuses 0, and is `at_most` above.
+use borrow.Author.Needs.{needs}
+use borrow.Author.Tests.{le-leb, lt-leb}
+use mathlib.Core.Path.{ap}
+use Rattle.message.specs.declared.Verdict.the-variants.{Refused}
+use Rattle.message.proofs.range.from_one.Statement.{statement}
+use Rattle.message.proofs.range.from_one.Tie as tie
+
+out-of-range-requires : tie.Need-out-of-range-requires
+out-of-range-requires c κs = search needs
+
+returns : tie.Need-returns
+returns c = rw (lt-leb _ _ (c .before .if1 .taken)) (ap Refused (c .out-of-range .ensures))
+
+at-most-requires : tie.Need-at-most-requires
+at-most-requires c κs = search needs
+
+returns-2 : tie.Need-returns-2
+returns-2 c = rw (le-leb _ _ (c .before .if1 .left)) (c .at-most .ensures)
+
+pub from-one-spec : {M : Type 1} → statement M
+from-one-spec = tie.close (tie.spec out-of-range-requires returns at-most-requires returns-2)

@@ -1,0 +1,57 @@
+-- Document 01's number and values for each case of a message: its command, and its fields in table order, flags 0 or 1.
+use Prim.Native.Nat.{ℕ}
+use mathlib.Core.Bool.{Bool}
+use mathlib.Core.List.{List, [], _∷_}
+use lib.IntN.{ℤ, pos}
+use Rattle.number.specs.Word.{num}
+use Rattle.message.specs.declared.Message.{Message}
+use Rattle.message.specs.declared.Message.the-variants.{Depth, WindAngle, WindSpeed, Speed, Trip, Total, Logs, Speeds, Water, Lamp, Latitude, Longitude, Ground, Course, Time, Date, Key, Heading, Variation, Turn}
+
+abbrev flag : Bool → ℤ
+flag on = pos (num on)
+
+unfoldable pub commandOf : Message → ℕ
+commandOf (Depth tenths anchor metric defective deep shallow) = 0x00
+commandOf (WindAngle halves) = 0x10
+commandOf (WindSpeed tenths metres) = 0x11
+commandOf (Speed tenths) = 0x20
+commandOf (Trip hundredths) = 0x21
+commandOf (Total tenths) = 0x22
+commandOf (Logs total trip) = 0x25
+commandOf (Speeds speed average valid stopped mph) = 0x26
+commandOf (Water tenths) = 0x27
+commandOf (Lamp level) = 0x30
+commandOf (Latitude degrees hundredths south) = 0x50
+commandOf (Longitude degrees hundredths east) = 0x51
+commandOf (Ground tenths) = 0x52
+commandOf (Course halves) = 0x53
+commandOf (Time hours minutes seconds) = 0x54
+commandOf (Date month day year) = 0x56
+commandOf (Key source code) = 0x86
+commandOf (Heading halves reference locked) = 0x89
+commandOf (Variation east) = 0x99
+commandOf (Turn degrees right rudder) = 0x9C
+
+unfoldable pub fieldsOf : Message → List ℤ
+fieldsOf (Depth tenths anchor metric defective deep shallow) =
+    pos tenths ∷ flag anchor ∷ flag metric ∷ flag defective ∷ flag deep ∷ flag shallow ∷ []
+fieldsOf (WindAngle halves) = pos halves ∷ []
+fieldsOf (WindSpeed tenths metres) = pos tenths ∷ flag metres ∷ []
+fieldsOf (Speed tenths) = pos tenths ∷ []
+fieldsOf (Trip hundredths) = pos hundredths ∷ []
+fieldsOf (Total tenths) = pos tenths ∷ []
+fieldsOf (Logs total trip) = pos total ∷ pos trip ∷ []
+fieldsOf (Speeds speed average valid stopped mph) =
+    pos speed ∷ pos average ∷ flag valid ∷ flag stopped ∷ flag mph ∷ []
+fieldsOf (Water tenths) = tenths ∷ []
+fieldsOf (Lamp level) = pos level ∷ []
+fieldsOf (Latitude degrees hundredths south) = pos degrees ∷ pos hundredths ∷ flag south ∷ []
+fieldsOf (Longitude degrees hundredths east) = pos degrees ∷ pos hundredths ∷ flag east ∷ []
+fieldsOf (Ground tenths) = pos tenths ∷ []
+fieldsOf (Course halves) = pos halves ∷ []
+fieldsOf (Time hours minutes seconds) = pos hours ∷ pos minutes ∷ pos seconds ∷ []
+fieldsOf (Date month day year) = pos month ∷ pos day ∷ pos year ∷ []
+fieldsOf (Key source code) = pos source ∷ pos code ∷ []
+fieldsOf (Heading halves reference locked) = pos halves ∷ pos reference ∷ flag locked ∷ []
+fieldsOf (Variation east) = east ∷ []
+fieldsOf (Turn degrees right rudder) = pos degrees ∷ flag right ∷ rudder ∷ []

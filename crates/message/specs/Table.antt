@@ -1,0 +1,44 @@
+-- The one table of kinds: command, length and kind, as document 01 lists them.
+use Prim.Native.Nat.{ℕ}
+use mathlib.Core.Bool.{cond}
+use mathlib.Core.List.{List, [], _∷_}
+use lib.Dec.{eqb}
+use Rattle.message.specs.declared.Kind.{Kind}
+use Rattle.message.specs.declared.Kind.the-variants.{Depth, WindAngle, WindSpeed, Speed, Trip, Total, Logs, Speeds, Water, Lamp, Latitude, Longitude, Ground, Course, Time, Date, Key, Heading, Variation, Turn}
+use Rattle.message.specs.declared.Row.{Row}
+use Rattle.message.specs.declared.Lookup.{Lookup}
+use Rattle.message.specs.declared.Lookup.the-variants.{Found, Unknown}
+
+abbrev row : ℕ → ℕ → Kind → Row
+row command length kind = record { command = command; length = length; kind = kind }
+
+unfoldable pub kinds : List Row
+kinds =
+    row 0x00 5 Depth ∷
+    row 0x10 4 WindAngle ∷
+    row 0x11 4 WindSpeed ∷
+    row 0x20 4 Speed ∷
+    row 0x21 5 Trip ∷
+    row 0x22 5 Total ∷
+    row 0x25 7 Logs ∷
+    row 0x26 7 Speeds ∷
+    row 0x27 4 Water ∷
+    row 0x30 3 Lamp ∷
+    row 0x50 5 Latitude ∷
+    row 0x51 5 Longitude ∷
+    row 0x52 4 Ground ∷
+    row 0x53 3 Course ∷
+    row 0x54 4 Time ∷
+    row 0x56 4 Date ∷
+    row 0x86 4 Key ∷
+    row 0x89 5 Heading ∷
+    row 0x99 3 Variation ∷
+    row 0x9C 4 Turn ∷ []
+
+-- the first row with this command
+abbrev pub rowIn : List Row → ℕ → Lookup
+rowIn [] command = Unknown
+rowIn (r ∷ rs) command = cond (eqb (r .command) command) (Found r) (rowIn rs command)
+
+unfoldable pub findOf : ℕ → Lookup
+findOf command = rowIn kinds command

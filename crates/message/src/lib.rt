@@ -1,0 +1,181 @@
+// The twenty kinds of message: their fields, their table, and what a field out of range gets.
+pub mod range;
+use datagram::Refusal;
+ghost use mathlib.Core.Path.{_≡_};
+ghost use Rattle.message.specs.Table.{findOf};
+
+// A kind of message, by its name in the table of document 01.
+pub enum Kind {
+    Depth,
+    WindAngle,
+    WindSpeed,
+    Speed,
+    Trip,
+    Total,
+    Logs,
+    Speeds,
+    Water,
+    Lamp,
+    Latitude,
+    Longitude,
+    Ground,
+    Course,
+    Time,
+    Date,
+    Key,
+    Heading,
+    Variation,
+    Turn,
+}
+
+// A message: its kind, and its fields in table order.
+pub enum Message {
+    Depth {
+        tenths: u32,
+        anchor: bool,
+        metric: bool,
+        defective: bool,
+        deep: bool,
+        shallow: bool,
+    },
+    WindAngle {
+        halves: u32,
+    },
+    WindSpeed {
+        tenths: u32,
+        metres: bool,
+    },
+    Speed {
+        tenths: u32,
+    },
+    Trip {
+        hundredths: u32,
+    },
+    Total {
+        tenths: u32,
+    },
+    Logs {
+        total: u32,
+        trip: u32,
+    },
+    Speeds {
+        speed: u32,
+        average: u32,
+        valid: bool,
+        stopped: bool,
+        mph: bool,
+    },
+    Water {
+        tenths: i32,
+    },
+    Lamp {
+        level: u32,
+    },
+    Latitude {
+        degrees: u32,
+        hundredths: u32,
+        south: bool,
+    },
+    Longitude {
+        degrees: u32,
+        hundredths: u32,
+        east: bool,
+    },
+    Ground {
+        tenths: u32,
+    },
+    Course {
+        halves: u32,
+    },
+    Time {
+        hours: u32,
+        minutes: u32,
+        seconds: u32,
+    },
+    Date {
+        month: u32,
+        day: u32,
+        year: u32,
+    },
+    Key {
+        source: u32,
+        code: u32,
+    },
+    Heading {
+        halves: u32,
+        reference: u32,
+        locked: bool,
+    },
+    Variation {
+        east: i32,
+    },
+    Turn {
+        degrees: u32,
+        right: bool,
+        rudder: i32,
+    },
+}
+
+// What reading a datagram gives.
+pub enum Reading {
+    Read(Message),
+    Refused(Refusal),
+}
+
+// Whether a message's fields are in range, or the refusal of the first that is not.
+pub enum Verdict {
+    InRange,
+    Refused(Refusal),
+}
+
+// A row of the table: the command, the whole length and the kind.
+pub struct Row {
+    pub command: u8,
+    pub length: u8,
+    pub kind: Kind,
+}
+
+// What looking a command up gives.
+pub enum Lookup {
+    Found(Row),
+    Unknown,
+}
+
+// The one table of kinds, in the order of their commands.
+pub const KINDS: [Row; 20] = [
+    Row { command: 0x00, length: 5, kind: Kind::Depth },
+    Row { command: 0x10, length: 4, kind: Kind::WindAngle },
+    Row { command: 0x11, length: 4, kind: Kind::WindSpeed },
+    Row { command: 0x20, length: 4, kind: Kind::Speed },
+    Row { command: 0x21, length: 5, kind: Kind::Trip },
+    Row { command: 0x22, length: 5, kind: Kind::Total },
+    Row { command: 0x25, length: 7, kind: Kind::Logs },
+    Row { command: 0x26, length: 7, kind: Kind::Speeds },
+    Row { command: 0x27, length: 4, kind: Kind::Water },
+    Row { command: 0x30, length: 3, kind: Kind::Lamp },
+    Row { command: 0x50, length: 5, kind: Kind::Latitude },
+    Row { command: 0x51, length: 5, kind: Kind::Longitude },
+    Row { command: 0x52, length: 4, kind: Kind::Ground },
+    Row { command: 0x53, length: 3, kind: Kind::Course },
+    Row { command: 0x54, length: 4, kind: Kind::Time },
+    Row { command: 0x56, length: 4, kind: Kind::Date },
+    Row { command: 0x86, length: 4, kind: Kind::Key },
+    Row { command: 0x89, length: 5, kind: Kind::Heading },
+    Row { command: 0x99, length: 3, kind: Kind::Variation },
+    Row { command: 0x9C, length: 4, kind: Kind::Turn },
+];
+
+// The table's row for a command.
+pub fn find(command: u8) -> Lookup
+    ensures { λ r. ⌜ r ≡ findOf command ⌝ }
+{
+    let mut i = 0;
+    while i < 20 {
+        let row = KINDS[i];
+        if row.command == command {
+            return Lookup::Found(row);
+        }
+        i += 1;
+    }
+    Lookup::Unknown
+}

@@ -1,0 +1,26 @@
+-- `negated_byte` subtracts the byte from 0, or from 256 where its sign bit is set.
+use borrow.Author.Needs.{needs}
+use mathlib.Core.Path.{_∙_}
+use native.Mathlib.Omega.{arith}
+use mir.Syntax.{w32}
+use mir.ValLaws.{toZ-ofZ}
+use Rattle.number.proofs.Signed.{negated-low, negated-high}
+use Rattle.number.proofs.negated_byte.Statement.{statement}
+use Rattle.number.proofs.negated_byte.Tie as tie
+
+difference-requires : tie.Need-difference-requires
+difference-requires c κs = search needs
+
+difference-requires-2 : tie.Need-difference-requires-2
+difference-requires-2 c κs = search needs
+
+returns : tie.Need-returns
+returns c = toZ-ofZ w32 _ (record { sfits = c .difference .ok }) ∙ c .difference .ensures ∙ negated-low (c .before .before .args .b) (omega arith)
+
+returns-2 : tie.Need-returns-2
+returns-2 c =
+    toZ-ofZ w32 _ (record { sfits = c .difference2 .ok }) ∙ c .difference2 .ensures
+    ∙ negated-high (c .before .before .args .b) (omega arith) (omega arith)
+
+pub negated-byte-spec : {M : Type 1} → statement M
+negated-byte-spec = tie.close (tie.spec difference-requires difference-requires-2 returns returns-2)

@@ -1,0 +1,26 @@
+-- `signed_byte` subtracts 256 from 128 on, as the two's complement of a byte does.
+use borrow.Author.Needs.{needs}
+use mathlib.Core.Path.{_∙_}
+use native.Mathlib.Omega.{arith}
+use mir.Syntax.{w32}
+use mir.ValLaws.{toZ-ofZ}
+use Rattle.number.proofs.Signed.{signed-low, signed-high}
+use Rattle.number.proofs.signed_byte.Statement.{statement}
+use Rattle.number.proofs.signed_byte.Tie as tie
+
+difference-requires : tie.Need-difference-requires
+difference-requires c κs = search needs
+
+difference-requires-2 : tie.Need-difference-requires-2
+difference-requires-2 c κs = search needs
+
+returns : tie.Need-returns
+returns c = toZ-ofZ w32 _ (record { sfits = c .difference .ok }) ∙ c .difference .ensures ∙ signed-low (c .before .before .args .b) (omega arith)
+
+returns-2 : tie.Need-returns-2
+returns-2 c =
+    toZ-ofZ w32 _ (record { sfits = c .difference2 .ok }) ∙ c .difference2 .ensures
+    ∙ signed-high (c .before .before .args .b) (omega arith) (omega arith)
+
+pub signed-byte-spec : {M : Type 1} → statement M
+signed-byte-spec = tie.close (tie.spec difference-requires difference-requires-2 returns returns-2)

@@ -1,0 +1,44 @@
+-- `heading` makes the definition's tests of the six bits and of XY, in that order.
+use borrow.Author.Needs.{needs}
+use borrow.Author.Tests.{le-leb, lt-leb}
+use mathlib.Core.Path.{ap}
+use Rattle.message.specs.declared.Reading.the-variants.{Refused}
+use Rattle.reader.proofs.kinds.heading.Statement.{statement}
+use Rattle.reader.proofs.kinds.heading.Tie as tie
+
+out-of-range-requires : tie.Need-out-of-range-requires
+out-of-range-requires c κs = search needs
+
+returns : tie.Need-returns
+returns c = rw (lt-leb _ _ (c .before .if1 .taken)) (ap Refused (c .out-of-range .ensures))
+
+out-of-range-requires-2 : tie.Need-out-of-range-requires-2
+out-of-range-requires-2 c κs = search needs
+
+returns-2 : tie.Need-returns-2
+returns-2 c = rw (le-leb _ _ (c .before .before .if1 .left), lt-leb _ _ (c .before .if2 .taken)) (ap Refused (c .out-of-range2 .ensures))
+
+half-angle-requires : tie.Need-half-angle-requires
+half-angle-requires c κs = search needs
+
+mul-t13 : tie.Need-mul-t13
+mul-t13 c = search needs
+
+add-t15 : tie.Need-add-t15
+add-t15 c = search needs
+
+returns-3 : tie.Need-returns-3
+returns-3 c = rw (le-leb _ _ (c .before .before .if1 .left), le-leb _ _ (c .before .if2 .left), c .half-angle .ensures)
+
+pub heading-spec : {M : Type 1} → statement M
+heading-spec =
+    tie.close
+    (tie.spec
+    out-of-range-requires
+    returns
+    out-of-range-requires-2
+    returns-2
+    half-angle-requires
+    mul-t13
+    add-t15
+    returns-3)

@@ -1,0 +1,19 @@
+-- `lamp` makes the definition's test of X.
+use borrow.Author.Needs.{needs}
+use borrow.Author.Tests.{eq-eqb, ne-eqb}
+use mathlib.Core.Path.{ap}
+use Rattle.message.specs.declared.Reading.the-variants.{Refused}
+use Rattle.reader.proofs.kinds.lamp.Statement.{statement}
+use Rattle.reader.proofs.kinds.lamp.Tie as tie
+
+out-of-range-requires : tie.Need-out-of-range-requires
+out-of-range-requires c κs = search needs
+
+returns : tie.Need-returns
+returns c = rw (eq-eqb _ _ (c .if1 .taken))
+
+returns-2 : tie.Need-returns-2
+returns-2 c = rw (ne-eqb _ _ (c .before .if1 .left)) (ap Refused (c .out-of-range .ensures))
+
+pub lamp-spec : {M : Type 1} → statement M
+lamp-spec = tie.close (tie.spec out-of-range-requires returns returns-2)

@@ -1,0 +1,25 @@
+-- `wind_speed` makes the definition's test of Y.
+use borrow.Author.Needs.{needs}
+use borrow.Author.Tests.{le-leb, lt-leb}
+use mathlib.Core.Path.{ap}
+use Rattle.message.specs.declared.Reading.the-variants.{Refused}
+use Rattle.reader.proofs.kinds.wind_speed.Statement.{statement}
+use Rattle.reader.proofs.kinds.wind_speed.Tie as tie
+
+mul-t8 : tie.Need-mul-t8
+mul-t8 c = search needs
+
+add-t11 : tie.Need-add-t11
+add-t11 c = search needs
+
+out-of-range-requires : tie.Need-out-of-range-requires
+out-of-range-requires c κs = search needs
+
+returns : tie.Need-returns
+returns c = rw (le-leb _ _ (c .if1 .taken))
+
+returns-2 : tie.Need-returns-2
+returns-2 c = rw (lt-leb _ _ (c .before .if1 .left)) (ap Refused (c .out-of-range .ensures))
+
+pub wind-speed-spec : {M : Type 1} → statement M
+wind-speed-spec = tie.close (tie.spec mul-t8 add-t11 out-of-range-requires returns returns-2)

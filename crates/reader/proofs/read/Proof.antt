@@ -1,0 +1,36 @@
+-- `read` tests for a whole datagram, looks the command up and reads by its row, as the definition does.
+use borrow.Author.Needs.{needs}
+use mathlib.Core.Path.{_∙_, sym, ap}
+use denote.Ref.{now}
+use Rattle.message.specs.declared.Lookup.{Lookup}
+use Rattle.message.specs.Table.{findOf}
+use Rattle.message.specs.Reading.{readOf, readAs}
+use Rattle.reader.proofs.read.Statement.{statement}
+use Rattle.reader.proofs.read.Tie as tie
+
+is-whole-requires : tie.Need-is-whole-requires
+is-whole-requires c κs = search needs
+
+byte-at-requires : tie.Need-byte-at-requires
+byte-at-requires c κs = search needs
+
+find-requires : tie.Need-find-requires
+find-requires c κs = search needs
+
+read-as-requires : tie.Need-read-as-requires
+read-as-requires c κs = search needs
+
+returns : tie.Need-returns
+unfolding readOf
+returns c =
+    c .read-as .ensures
+    ∙ rw (c .before .find .ensures, c .before .before .byte-at .ensures, sym (c .before .before .before .before .is-whole .ensures), c .before .before .before .if1 .taken)
+
+returns-2 : tie.Need-returns-2
+unfolding readOf
+returns-2 c = rw (sym (c .before .is-whole .ensures), c .if1 .left)
+
+pub read-spec : {M : Type 1} → statement M
+read-spec =
+    tie.close
+    (tie.spec is-whole-requires byte-at-requires find-requires read-as-requires returns returns-2)
