@@ -1,5 +1,6 @@
 // The twenty kinds of message: their fields, their table, and what a field out of range gets.
 pub mod range;
+
 use datagram::Refusal;
 ghost use mathlib.Core.Path.{_≡_};
 ghost use Rattle.message.specs.Table.{findOf};
@@ -143,26 +144,106 @@ pub enum Lookup {
 
 // The one table of kinds, in the order of their commands.
 pub const KINDS: [Row; 20] = [
-    Row { command: 0x00, length: 5, kind: Kind::Depth },
-    Row { command: 0x10, length: 4, kind: Kind::WindAngle },
-    Row { command: 0x11, length: 4, kind: Kind::WindSpeed },
-    Row { command: 0x20, length: 4, kind: Kind::Speed },
-    Row { command: 0x21, length: 5, kind: Kind::Trip },
-    Row { command: 0x22, length: 5, kind: Kind::Total },
-    Row { command: 0x25, length: 7, kind: Kind::Logs },
-    Row { command: 0x26, length: 7, kind: Kind::Speeds },
-    Row { command: 0x27, length: 4, kind: Kind::Water },
-    Row { command: 0x30, length: 3, kind: Kind::Lamp },
-    Row { command: 0x50, length: 5, kind: Kind::Latitude },
-    Row { command: 0x51, length: 5, kind: Kind::Longitude },
-    Row { command: 0x52, length: 4, kind: Kind::Ground },
-    Row { command: 0x53, length: 3, kind: Kind::Course },
-    Row { command: 0x54, length: 4, kind: Kind::Time },
-    Row { command: 0x56, length: 4, kind: Kind::Date },
-    Row { command: 0x86, length: 4, kind: Kind::Key },
-    Row { command: 0x89, length: 5, kind: Kind::Heading },
-    Row { command: 0x99, length: 3, kind: Kind::Variation },
-    Row { command: 0x9C, length: 4, kind: Kind::Turn },
+    Row {
+        command: 0x00,
+        length: 5,
+        kind: Kind::Depth,
+    },
+    Row {
+        command: 0x10,
+        length: 4,
+        kind: Kind::WindAngle,
+    },
+    Row {
+        command: 0x11,
+        length: 4,
+        kind: Kind::WindSpeed,
+    },
+    Row {
+        command: 0x20,
+        length: 4,
+        kind: Kind::Speed,
+    },
+    Row {
+        command: 0x21,
+        length: 5,
+        kind: Kind::Trip,
+    },
+    Row {
+        command: 0x22,
+        length: 5,
+        kind: Kind::Total,
+    },
+    Row {
+        command: 0x25,
+        length: 7,
+        kind: Kind::Logs,
+    },
+    Row {
+        command: 0x26,
+        length: 7,
+        kind: Kind::Speeds,
+    },
+    Row {
+        command: 0x27,
+        length: 4,
+        kind: Kind::Water,
+    },
+    Row {
+        command: 0x30,
+        length: 3,
+        kind: Kind::Lamp,
+    },
+    Row {
+        command: 0x50,
+        length: 5,
+        kind: Kind::Latitude,
+    },
+    Row {
+        command: 0x51,
+        length: 5,
+        kind: Kind::Longitude,
+    },
+    Row {
+        command: 0x52,
+        length: 4,
+        kind: Kind::Ground,
+    },
+    Row {
+        command: 0x53,
+        length: 3,
+        kind: Kind::Course,
+    },
+    Row {
+        command: 0x54,
+        length: 4,
+        kind: Kind::Time,
+    },
+    Row {
+        command: 0x56,
+        length: 4,
+        kind: Kind::Date,
+    },
+    Row {
+        command: 0x86,
+        length: 4,
+        kind: Kind::Key,
+    },
+    Row {
+        command: 0x89,
+        length: 5,
+        kind: Kind::Heading,
+    },
+    Row {
+        command: 0x99,
+        length: 3,
+        kind: Kind::Variation,
+    },
+    Row {
+        command: 0x9C,
+        length: 4,
+        kind: Kind::Turn,
+    },
 ];
 
 // The table's row for a command.

@@ -1,5 +1,6 @@
 // The range of each field: the verdict on a message.
-use crate::{Message, Verdict};
+use crate::Message;
+use crate::Verdict;
 use datagram::Refusal;
 ghost use mathlib.Core.Path.{_≡_};
 ghost use Rattle.datagram.specs.Refusals.{outOfRange};
@@ -9,7 +10,10 @@ ghost use Rattle.message.specs.Range.{rangeOf, atMost, fromOne, within, 
 pub fn out_of_range(field: u8) -> Refusal
     ensures { λ r. ⌜ r ≡ outOfRange field ⌝ }
 {
-    Refusal { number: 7, place: 0 }
+    Refusal {
+        number: 7,
+        place: 0,
+    }
 }
 
 fn at_most(field: u8, limit: u32, n: u32) -> Verdict

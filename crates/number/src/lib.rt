@@ -1,5 +1,6 @@
 // Bytes, words and two's complement: the arithmetic below every field.
 ghost use mathlib.Core.Path.{_≡_};
+ghost use Prim.Native.Nat.{_≤_};
 ghost use lib.IntN.{pos, negℤ, _-ℤ_};
 ghost use mir.Syntax.{w8, w32};
 ghost use mir.Val.{toZ, ofZ};
@@ -14,7 +15,7 @@ pub fn word_of(low: u8, high: u8) -> u32
 
 // A flag as 1 or 0.
 pub fn flag(on: bool) -> u8
-    ensures { λ r. ⌜ r ≡ num on ⌝ }
+    ensures { λ r. ⌜ (r ≡ num on) × (r ≤ 1) ⌝ }
 {
     if on { 1 } else { 0 }
 }

@@ -1,9 +1,15 @@
 // Each kind's bytes, named by document 01's letters, as a message.
-use angle::{half_angle, turns_right, whole_angle};
+use angle::half_angle;
+use angle::turns_right;
+use angle::whole_angle;
 use datagram::Refusal;
+use message::Message;
+use message::Reading;
 use message::range::out_of_range;
-use message::{Message, Reading};
-use number::{difference, negated_byte, signed_byte, word_of};
+use number::difference;
+use number::negated_byte;
+use number::signed_byte;
+use number::word_of;
 ghost use mathlib.Core.Path.{_≡_};
 ghost use Rattle.message.specs.Decode.{depthOf, windAngleOf, windSpeedOf, speedOf, tripOf, totalOf, logsOf, speedsOf, waterOf, lampOf, latitudeOf, longitudeOf, groundOf, courseOf, timeOf, dateOf, keyOf, headingOf, variationOf, turnOf};
 
@@ -175,7 +181,10 @@ pub fn key(x1: u8, code: u8, repeat: u8) -> Reading
             code: code as u32,
         })
     } else {
-        Reading::Refused(Refusal { number: 6, place: 0 })
+        Reading::Refused(Refusal {
+            number: 6,
+            place: 0,
+        })
     }
 }
 

@@ -1,7 +1,12 @@
 // The reader: from the bytes of a datagram to a typed message.
 mod kinds;
+
 use datagram::Refusal;
-use message::{Kind, Lookup, Message, Reading, Verdict};
+use message::Kind;
+use message::Lookup;
+use message::Message;
+use message::Reading;
+use message::Verdict;
 ghost use mathlib.Core.Path.{_≡_};
 ghost use lib.ListN.{getD};
 ghost use Rattle.message.specs.Reading.{readOf, readKind, readAs, judged};
@@ -13,7 +18,10 @@ pub fn read(bytes: &[u8]) -> Reading
     if datagram::is_whole(bytes) {
         read_as(message::find(byte_at(bytes, 0)), bytes)
     } else {
-        Reading::Refused(Refusal { number: 3, place: 0 })
+        Reading::Refused(Refusal {
+            number: 3,
+            place: 0,
+        })
     }
 }
 
@@ -28,13 +36,19 @@ fn read_as(found: Lookup, bytes: &[u8]) -> Reading
     ensures { λ r. ⌜ r ≡ readAs found (now (bytes .entry)) ⌝ }
 {
     match found {
-        Lookup::Unknown => Reading::Refused(Refusal { number: 4, place: 0 }),
+        Lookup::Unknown => Reading::Refused(Refusal {
+            number: 4,
+            place: 0,
+        }),
         Lookup::Found(row) => {
             if bytes.len() == row.length as usize {
                 let kind = row.kind;
                 judge(read_kind(kind, bytes))
             } else {
-                Reading::Refused(Refusal { number: 5, place: 0 })
+                Reading::Refused(Refusal {
+                    number: 5,
+                    place: 0,
+                })
             }
         }
     }

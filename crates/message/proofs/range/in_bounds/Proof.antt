@@ -17,15 +17,19 @@ returns : tie.Need-returns
 returns c =
     let a = c .before .before .args in
     let f = c .before .before .fits in
-    rw (le-read (a .low) (a .z) true (f .low) (f .z) (c .before .if1 .taken),
-    le-read (a .z) (a .high) true (f .z) (f .high) (c .if2 .taken))
+    rw (
+      le-read (a .low) (a .z) true (f .low) (f .z) (c .before .if1 .taken),
+      le-read (a .z) (a .high) true (f .z) (f .high) (c .if2 .taken),
+    )
 
 returns-2 : tie.Need-returns-2
 returns-2 c =
     let a = c .before .before .before .args in
     let f = c .before .before .before .fits in
-    rw (le-read (a .low) (a .z) true (f .low) (f .z) (c .before .before .if1 .taken),
-    le-read (a .z) (a .high) false (f .z) (f .high) (c .before .if2 .left)) (ap Refused (c .out-of-range .ensures))
+    rw (
+      le-read (a .low) (a .z) true (f .low) (f .z) (c .before .before .if1 .taken),
+      le-read (a .z) (a .high) false (f .z) (f .high) (c .before .if2 .left),
+    ) (ap Refused (c .out-of-range .ensures))
 
 returns-3 : tie.Need-returns-3
 returns-3 c =

@@ -1,0 +1,10 @@
+pub mod Lists
+pub mod Limits
+pub mod Signs
+pub mod Rows
+pub mod Frame
+pub mod Bytes
+pub mod Decodes
+pub mod Standing
+pub mod Rewrites
+pub mod RoundTrip

@@ -1,0 +1,57 @@
+-- Demand 2 about the definitions that the reader and the writer equal.
+use mathlib.Core.Path.{_≡_}
+use mathlib.Core.Bool.{Bool, true, _&&_}
+use mathlib.Core.List.{List, [], _∷_}
+use Prim.Native.Nat.{ℕ}
+use lib.Dec.{ltb}
+use Rattle.datagram.specs.Whole.{whole}
+use Rattle.message.specs.declared.Kind.{Kind}
+use Rattle.message.specs.declared.Kind.the-variants as kind
+use Rattle.message.specs.declared.Message.{Message}
+use Rattle.message.specs.declared.Message.the-variants.{Depth, WindAngle, WindSpeed, Speed, Trip, Total, Logs, Speeds, Water, Lamp, Latitude, Longitude, Ground, Course, Time, Date, Key, Heading, Variation, Turn}
+use Rattle.message.specs.declared.Reading.the-variants.{Read}
+use Rattle.message.specs.declared.Verdict.the-variants.{InRange}
+use Rattle.message.specs.Range.{rangeOf}
+use Rattle.message.specs.Spelling.{bytesOf}
+use Rattle.message.specs.Reading.{readOf}
+use Rattle.message.specs.Ignored.{ignored, asWritten}
+
+-- every number is a byte
+abbrev pub allBytes : List ℕ → Bool
+allBytes [] = true
+allBytes (x ∷ xs) = ltb x 256 && allBytes xs
+
+unfoldable pub kindOf : Message → Kind
+kindOf (Depth tenths anchor metric defective deep shallow) = kind.Depth
+kindOf (WindAngle halves) = kind.WindAngle
+kindOf (WindSpeed tenths metres) = kind.WindSpeed
+kindOf (Speed tenths) = kind.Speed
+kindOf (Trip hundredths) = kind.Trip
+kindOf (Total tenths) = kind.Total
+kindOf (Logs total trip) = kind.Logs
+kindOf (Speeds speed average valid stopped mph) = kind.Speeds
+kindOf (Water tenths) = kind.Water
+kindOf (Lamp level) = kind.Lamp
+kindOf (Latitude degrees hundredths south) = kind.Latitude
+kindOf (Longitude degrees hundredths east) = kind.Longitude
+kindOf (Ground tenths) = kind.Ground
+kindOf (Course halves) = kind.Course
+kindOf (Time hours minutes seconds) = kind.Time
+kindOf (Date month day year) = kind.Date
+kindOf (Key source code) = kind.Key
+kindOf (Heading halves reference locked) = kind.Heading
+kindOf (Variation east) = kind.Variation
+kindOf (Turn degrees right rudder) = kind.Turn
+
+pub record RoundTrip : Type 0 where
+  -- what the writer gives is a whole datagram of bytes
+  pub whole-datagram : (m : Message) → whole (bytesOf m) ≡ true
+  pub all-bytes : (m : Message) → allBytes (bytesOf m) ≡ true
+  -- a message whose fields are in range is written and reads back the same
+  pub reads-back : (m : Message) → rangeOf m ≡ InRange → readOf (bytesOf m) ≡ Read m
+  -- two messages in range with the same bytes are the same message
+  pub one-message : (m n : Message) → rangeOf m ≡ InRange → rangeOf n ≡ InRange → bytesOf m ≡ bytesOf n → m ≡ n
+  -- what is read is in range, so the writer takes it
+  pub read-in-range : (s : List ℕ) (m : Message) → readOf s ≡ Read m → rangeOf m ≡ InRange
+  -- a datagram that is read and written again gives its own bytes, if its ignored bits stand as the writer sets them
+  pub writes-back : (s : List ℕ) (m : Message) → allBytes s ≡ true → readOf s ≡ Read m → asWritten (ignored (kindOf m)) s ≡ true → bytesOf m ≡ s

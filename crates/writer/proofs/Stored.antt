@@ -1,0 +1,50 @@
+-- Symbols stored one after the other at the front of a part are what the definition stores there.
+use mathlib.Core.Path.{_≡_, refl, sym, ap, ap₂, _∙_}
+use mathlib.Core.Bool.{Bool, true, false, cond}
+use mathlib.Core.List.{List, [], _∷_, _++_, append-nil}
+use Prim.Native.Nat.{ℕ, _+_, _-_, _≤_, _<_}
+use native.Mathlib.Nat.{zero-add}
+use native.Mathlib.Omega.{arith}
+use lib.Dec.{leb}
+use lib.ListN.{length, take, drop, length-drop, take-append-drop, drop-of-length-le}
+use lib.Seq.{sets, sets-eq, take-all, drop-drop}
+use borrow.Author.Tests.{le-leb, lt-leb}
+use Rattle.datagram.specs.Refusals.{noRoom}
+use Rattle.datagram.specs.Whole.{symbols}
+use Rattle.message.specs.declared.Verdict.the-variants.{InRange}
+use Rattle.writer.specs.declared.Written.{Written}
+use Rattle.writer.specs.declared.Written.the-variants.{Wrote, Refused}
+use Rattle.writer.specs.Writing.{Outcome, outcome, storeOf, ruledWrite}
+
+as-many : (bytes : List ℕ) → length (symbols bytes) ≡ length bytes
+as-many [] = refl
+as-many (b ∷ bs) = refl
+
+pub stored : (bytes part : List ℕ) → length bytes ≤ length part → outcome (Wrote (length bytes)) (sets part 0 (symbols bytes)) ≡ storeOf bytes part
+stored bytes part h =
+    let n = as-many bytes in
+    rw (le-leb (length bytes) (length part) h)
+    (ap (outcome (Wrote (length bytes)))
+    (sets-eq (symbols bytes) part 0 (omega arith)
+    ∙ ap (λ (k : ℕ). symbols bytes ++ drop k part) (zero-add (length (symbols bytes)) ∙ n)))
+
+pub no-room : (bytes part : List ℕ) → length part < length bytes → outcome (Refused noRoom) part ≡ storeOf bytes part
+no-room bytes part h = rw (lt-leb (length bytes) (length part) h)
+
+-- what was stored in the part from the place on, said of the whole buffer
+module _ (bytes buffer : List ℕ) (at : ℕ) where
+  stays : (t : Bool) → leb (length bytes) (length (drop at buffer)) ≡ t
+      → outcome (storeOf bytes (drop at buffer) .answer) (take at buffer ++ storeOf bytes (drop at buffer) .buffer)
+      ≡ cond t (outcome (Wrote (length bytes)) (take at buffer ++ (symbols bytes ++ drop (at + length bytes) buffer))) (outcome (Refused noRoom) buffer)
+  stays true e = rw e (ap (λ (rest : List ℕ). outcome (Wrote (length bytes)) (take at buffer ++ (symbols bytes ++ rest))) (drop-drop (length bytes) at buffer))
+  stays false e = rw e (ap (outcome (Refused noRoom)) (take-append-drop at buffer))
+
+  pub home : (r : Written) (part : List ℕ) → at ≤ length buffer → outcome r part ≡ storeOf bytes (take (length buffer - at) (drop at buffer))
+      → outcome r (take at buffer ++ (part ++ drop (length buffer - at) (drop at buffer))) ≡ ruledWrite InRange bytes buffer at
+  home r part h e =
+      let n : length (drop at buffer) ≡ length buffer - at = length-drop at buffer in
+      let whole : take (length buffer - at) (drop at buffer) ≡ drop at buffer = take-all (length buffer - at) (drop at buffer) (omega arith) in
+      let none : drop (length buffer - at) (drop at buffer) ≡ [] = drop-of-length-le (drop at buffer) {i = length buffer - at} (omega arith) in
+      let f : outcome r part ≡ storeOf bytes (drop at buffer) = e ∙ ap (storeOf bytes) whole in
+      rw (none, append-nil, le-leb at (length buffer) h, ← n)
+      (ap (λ (o : Outcome). outcome (o .answer) (take at buffer ++ o .buffer)) f ∙ stays (leb (length bytes) (length (drop at buffer))) refl)

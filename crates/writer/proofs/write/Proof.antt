@@ -1,0 +1,74 @@
+-- `write` refuses by the verdict, and else lends the part from the place on; what comes back stands after the numbers before it.
+use borrow.Author.Needs.{needs}
+use borrow.Author.Tests.{lt-leb}
+use mathlib.Core.Path.{_∙_, sym, ap}
+use denote.Ref.{now}
+use Rattle.message.specs.declared.Verdict.{Verdict}
+use Rattle.message.specs.Spelling.{bytesOf}
+use Rattle.writer.specs.Writing.{writeOf, ruledWrite}
+use Rattle.writer.proofs.Stored.{home}
+use Rattle.writer.proofs.write.Statement.{statement}
+use Rattle.writer.proofs.write.Tie as tie
+
+range-of-requires : tie.Need-range-of-requires
+range-of-requires c κs = search needs
+
+enum-known-r : tie.Need-enum-known-r
+enum-known-r c = search needs
+
+enum-told : tie.Need-enum-told
+enum-told c = search needs
+
+mul-put : tie.Need-mul-put
+mul-put c = search needs
+
+sub-put : tie.Need-sub-put
+sub-put c = search needs
+
+part-put-start : tie.Need-part-put-start
+part-put-start c = search needs
+
+part-put-end : tie.Need-part-put-end
+part-put-end c = search needs
+
+put-requires : tie.Need-put-requires
+put-requires c κs = search needs
+
+returns : tie.Need-returns
+unfolding writeOf
+returns c =
+    let a = c .before .before .before .before .before .args in
+    sym (ap (λ (v : Verdict). ruledWrite v (bytesOf (a .m)) (now (a .buf)) (a .at)) (sym (c .before .before .before .range-of .ensures) ∙ c .before .r .given .1))
+
+same-length : tie.Need-same-length
+same-length c = search needs
+
+returns-2 : tie.Need-returns-2
+unfolding writeOf
+returns-2 c =
+    let a = c .before .before .before .before .before .before .before .before .before .args in
+    home (bytesOf (a .m)) (now (a .buf)) (a .at) (c .before .before .put .result) (c .before .before .put .last .1 .0) (c .before .before .before .before .if1 .taken) (c .before .before .put .ensures)
+    ∙ sym (ap (λ (v : Verdict). ruledWrite v (bytesOf (a .m)) (now (a .buf)) (a .at)) (sym (c .before .before .before .before .before .before .before .range-of .ensures) ∙ c .before .before .before .before .before .enum-told .given .1))
+
+returns-3 : tie.Need-returns-3
+unfolding writeOf
+returns-3 c =
+    let a = c .before .before .before .before .before .args in
+    sym (ap (λ (v : Verdict). ruledWrite v (bytesOf (a .m)) (now (a .buf)) (a .at)) (sym (c .before .before .before .range-of .ensures) ∙ c .before .enum-told .given .1) ∙ rw (lt-leb _ _ (c .if1 .left)))
+
+pub write-spec : {M : Type 1} → statement M
+write-spec =
+    tie.close
+    (tie.spec
+    range-of-requires
+    enum-known-r
+    enum-told
+    mul-put
+    sub-put
+    part-put-start
+    part-put-end
+    put-requires
+    returns
+    same-length
+    returns-2
+    returns-3)
