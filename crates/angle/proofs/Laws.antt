@@ -1,6 +1,6 @@
 -- Each angle has exactly one spelling: what is spelled reads back, and what is read is spelled the same.
 -- Each law is one test that antt computes over all angles, or over all digits.
-use mathlib.Core.Path.{_≡_, refl, sym, ap₂, _∙_}
+use mathlib.Core.Path.{_≡_, refl, ap₂}
 use mathlib.Core.Bool.{Bool, true, false, Bool·beq}
 use Prim.Native.Nat.{ℕ, _+_, _*_, _/_, _%_, _<_}
 use native.Mathlib.Omega.{arith}

@@ -8,6 +8,42 @@ pub struct Refusal {
     pub place: u64,
 }
 
+// The refusals of document 01 by name.
+pub const SYMBOL_ABOVE: Refusal = Refusal {
+    number: 1,
+    place: 0,
+};
+
+pub const NOT_SOUND: Refusal = Refusal {
+    number: 2,
+    place: 0,
+};
+
+pub const NOT_WHOLE: Refusal = Refusal {
+    number: 3,
+    place: 0,
+};
+
+pub const UNKNOWN_COMMAND: Refusal = Refusal {
+    number: 4,
+    place: 0,
+};
+
+pub const WRONG_LENGTH: Refusal = Refusal {
+    number: 5,
+    place: 0,
+};
+
+pub const BAD_REPEAT: Refusal = Refusal {
+    number: 6,
+    place: 0,
+};
+
+pub const NO_ROOM: Refusal = Refusal {
+    number: 8,
+    place: 0,
+};
+
 // Whether the bytes are one whole datagram.
 pub fn is_whole(bytes: &[u8]) -> bool
     ensures { λ r. ⌜ r ≡ whole (now (bytes .entry)) ⌝ }

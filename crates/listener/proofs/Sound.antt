@@ -1,7 +1,7 @@
 -- Soundness by the list of held bytes: a sound state is the one that holds its bytes, and they are fewer than declared.
 use Prim.Native.Nat.{ℕ, zero, suc, _-_, _≤_, _<_}
 use mathlib.Core.Path.{_≡_, refl, sym, ap, _∙_}
-use mathlib.Core.Bool.{Bool, true, false, _&&_, cond, and-true, and-false}
+use mathlib.Core.Bool.{Bool, true, false, _&&_, and-eq-true-iff, cond, and-true, and-false}
 use mathlib.Core.List.{List, [], _∷_, _++_}
 use native.Mathlib.Omega.{arith}
 use borrow.Author.Tests.{ltb-true, ltb-false, leb-false, eqb-true, lt-ltb, le-leb}
@@ -30,15 +30,10 @@ zeros-pass : (n : ℕ) → allZero (replicate n 0) ≡ true
 zeros-pass zero = refl
 zeros-pass (suc n) = zeros-pass n
 
-both : (a b : Bool) → a && b ≡ true → (a ≡ true) × (b ≡ true)
-both true b e = (refl, e)
-both false true e = (e, refl)
-both false false e = (e, e)
-
 are-zeros : (xs : List ℕ) → allZero xs ≡ true → xs ≡ replicate (length xs) 0
 are-zeros [] e = refl
 are-zeros (x ∷ xs) e =
-    let parts = both (eqb x 0) (allZero xs) e in
+    let parts = and-eq-true-iff (eqb x 0) (allZero xs) .0 e in
     rw (eqb-true x 0 (parts .0)) (ap (λ (r : List ℕ). 0 ∷ r) (are-zeros xs (parts .1)))
 
 pub held-holding : (xs : List ℕ) → length xs ≤ 17 → heldBytes (holding xs) ≡ xs
@@ -57,7 +52,7 @@ pub held-by : (l : Listener) → length (l .bytes) ≡ 17 → sound l ≡ true �
 unfolding padTo
 held-by l long s =
     let rest = drop (l .held) (l .bytes) in
-    let parts = both (ltb (l .held) (declared (getD (l .bytes) 1 0))) (allZero rest) (sym (sound-is l) ∙ s) in
+    let parts = and-eq-true-iff (ltb (l .held) (declared (getD (l .bytes) 1 0))) (allZero rest) .0 (sym (sound-is l) ∙ s) in
     let short : l .held < declared (getD (l .bytes) 1 0) = ltb-true (l .held) (declared (getD (l .bytes) 1 0)) (parts .0) in
     let count : length (heldBytes l) ≡ l .held = length-take-le (l .held) (l .bytes) (omega arith) in
     let left : length rest ≡ 17 - length (heldBytes l) = simp length-drop (cc) in

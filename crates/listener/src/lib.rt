@@ -1,10 +1,11 @@
 // The listener: from 9-bit bus symbols to whole datagrams, one symbol a call.
+use datagram::NOT_SOUND;
 use datagram::Refusal;
+use datagram::SYMBOL_ABOVE;
 ghost use mathlib.Core.Path.{_≡_};
 ghost use mathlib.Core.Bool.{true};
 ghost use mathlib.Core.List.{[], _∷_, _++_};
 ghost use Prim.Native.Nat.{_≤_, _<_};
-ghost use Rattle.datagram.specs.Refusals.{refusal};
 ghost use Rattle.listener.specs.State.{sound, empty, holding, heldBytes};
 ghost use Rattle.listener.specs.Step.{hearOf, commandSymbol, otherSymbol, quiet, refusedBy, handed};
 
@@ -75,10 +76,10 @@ pub fn hear(l: Listener, symbol: u16) -> Heard
     ensures { λ r. ⌜ r ≡ hearOf l symbol ⌝ }
 {
     if 511 < symbol {
-        return refused(l, 1);
+        return refused(l, SYMBOL_ABOVE);
     }
     if !is_sound(l) {
-        return refused(l, 2);
+        return refused(l, NOT_SOUND);
     }
     if 256 <= symbol {
         return opened(l, (symbol - 256) as u8);
@@ -101,13 +102,9 @@ fn without_bytes(answer: Answer, listener: Listener) -> Heard
 }
 
 // A refusal leaves the state as it was.
-fn refused(l: Listener, number: u8) -> Heard
-    ensures { λ r. ⌜ r ≡ refusedBy (refusal number) l ⌝ }
+fn refused(l: Listener, refusal: Refusal) -> Heard
+    ensures { λ r. ⌜ r ≡ refusedBy refusal l ⌝ }
 {
-    let refusal = Refusal {
-        number: number,
-        place: 0,
-    };
     without_bytes(Answer::Refused(refusal), l)
 }
 

@@ -11,7 +11,6 @@ use Rattle.angle.specs.Half.{halfAngle}
 use Rattle.angle.specs.Degree.{wholeAngle, turnsRight}
 use Rattle.message.specs.declared.Reading.{Reading}
 use Rattle.message.specs.declared.Reading.the-variants.{Read, Refused}
-use Rattle.message.specs.declared.Message.{Message}
 use Rattle.message.specs.declared.Message.the-variants.{Depth, WindAngle, WindSpeed, Speed, Trip, Total, Logs, Speeds, Water, Lamp, Latitude, Longitude, Ground, Course, Time, Date, Key, Heading, Variation, Turn}
 
 -- the six low bits of VW

@@ -2,7 +2,7 @@
 use angle::half_angle;
 use angle::turns_right;
 use angle::whole_angle;
-use datagram::Refusal;
+use datagram::BAD_REPEAT;
 use message::Message;
 use message::Reading;
 use message::range::out_of_range;
@@ -181,10 +181,7 @@ pub fn key(x1: u8, code: u8, repeat: u8) -> Reading
             code: code as u32,
         })
     } else {
-        Reading::Refused(Refusal {
-            number: 6,
-            place: 0,
-        })
+        Reading::Refused(BAD_REPEAT)
     }
 }
 

@@ -1,10 +1,11 @@
 // The reader: from the bytes of a datagram to a typed message.
 mod kinds;
 
-use datagram::Refusal;
+use datagram::NOT_WHOLE;
+use datagram::UNKNOWN_COMMAND;
+use datagram::WRONG_LENGTH;
 use message::Kind;
 use message::Lookup;
-use message::Message;
 use message::Reading;
 use message::Verdict;
 ghost use mathlib.Core.Path.{_≡_};
@@ -18,10 +19,7 @@ pub fn read(bytes: &[u8]) -> Reading
     if datagram::is_whole(bytes) {
         read_as(message::find(byte_at(bytes, 0)), bytes)
     } else {
-        Reading::Refused(Refusal {
-            number: 3,
-            place: 0,
-        })
+        Reading::Refused(NOT_WHOLE)
     }
 }
 
@@ -36,19 +34,13 @@ fn read_as(found: Lookup, bytes: &[u8]) -> Reading
     ensures { λ r. ⌜ r ≡ readAs found (now (bytes .entry)) ⌝ }
 {
     match found {
-        Lookup::Unknown => Reading::Refused(Refusal {
-            number: 4,
-            place: 0,
-        }),
+        Lookup::Unknown => Reading::Refused(UNKNOWN_COMMAND),
         Lookup::Found(row) => {
             if bytes.len() == row.length as usize {
                 let kind = row.kind;
                 judge(read_kind(kind, bytes))
             } else {
-                Reading::Refused(Refusal {
-                    number: 5,
-                    place: 0,
-                })
+                Reading::Refused(WRONG_LENGTH)
             }
         }
     }

@@ -7,4 +7,5 @@ pub mod Bytes
 pub mod Decodes
 pub mod Standing
 pub mod Rewrites
+pub mod Written
 pub mod RoundTrip

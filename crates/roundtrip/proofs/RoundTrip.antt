@@ -1,12 +1,9 @@
 -- The six laws of demand 2, for all twenty kinds.
 use mathlib.Core.Path.{_≡_, refl, subst}
-use mathlib.Core.Bool.{true, _&&_, and-eq-true-iff}
+use mathlib.Core.Bool.{true}
 use mathlib.Core.List.{List}
 use Prim.Native.Nat.{ℕ}
-use lib.Dec.{leb, eqb}
 use lib.ListN.{length}
-use borrow.Author.Tests.{eqb-true}
-use Rattle.datagram.specs.Whole.{whole, declared}
 use Rattle.message.specs.declared.Message.{Message}
 use Rattle.message.specs.declared.Reading.{Reading}
 use Rattle.message.specs.declared.Reading.the-variants.{Read}
@@ -21,6 +18,8 @@ use Rattle.roundtrip.proofs.Lists.{of-length}
 use Rattle.roundtrip.proofs.Bytes.{whole-datagram, all-bytes}
 use Rattle.roundtrip.proofs.Frame.{read, frame}
 use Rattle.roundtrip.proofs.Rows.{rowOf, finds, of-found}
+use Rattle.datagram.proofs.Whole.{declares}
+use Rattle.roundtrip.proofs.Written.{written, accepted}
 use Rattle.roundtrip.proofs.Decodes.{decodes}
 use Rattle.roundtrip.proofs.Standing.{all-stand}
 use Rattle.roundtrip.proofs.Rewrites.{IfRead, Back, rewrites}
@@ -33,27 +32,21 @@ reads-back m r =
 one-message : (m n : Message) → rangeOf m ≡ InRange → rangeOf n ≡ InRange → bytesOf m ≡ bytesOf n → m ≡ n
 one-message m n p q e = cc (reads-back m p, reads-back n q)
 
--- a whole datagram has the length that its second byte declares
-declares : (s : List ℕ) → whole s ≡ true → length s ≡ declared (byte s 1)
-unfolding whole
-declares s w =
-    let last = eqb (length s) (declared (byte s 1)) in
-    let upper = leb (length s) 18 in
-    eqb-true _ _ (and-eq-true-iff upper last .0 (and-eq-true-iff (leb 3 (length s)) (upper && last) .0 w .1) .1)
-
 writes-back : (s : List ℕ) (m : Message) → allBytes s ≡ true → readOf s ≡ Read m → asWritten (ignored (kindOf m)) s ≡ true → bytesOf m ≡ s
 unfolding findOf
-writes-back s m bytes e written =
+writes-back s m bytes e stand =
     let f = frame s m e in
     let row = f .row in
     let known = of-found rewrites (byte s 0) row (f .found) in
     let back =
     of-length (row .length) _ (known .1) s (f .long) (known .0, declares s (f .is-whole)) in
-    subst (λ (r : Reading). IfRead r (Back s)) (f .says) back (all-stand (ignored (kindOf m)) s bytes written)
+    subst (λ (r : Reading). IfRead r (Back s)) (f .says) back (all-stand (ignored (kindOf m)) s bytes stand)
 
 pub round-trip : RoundTrip
 round-trip =
     record {
+      written = written;
+      accepted = accepted;
       whole-datagram = whole-datagram;
       all-bytes = all-bytes;
       reads-back = reads-back;

@@ -1,9 +1,10 @@
 -- Demand 2 about the definitions that the reader and the writer equal.
 use mathlib.Core.Path.{_≡_}
 use mathlib.Core.Bool.{Bool, true, _&&_}
-use mathlib.Core.List.{List, [], _∷_}
-use Prim.Native.Nat.{ℕ}
+use mathlib.Core.List.{List, [], _∷_, _++_}
+use Prim.Native.Nat.{ℕ, _+_, _≤_}
 use lib.Dec.{ltb}
+use lib.ListN.{length, take, drop}
 use Rattle.datagram.specs.Whole.{whole}
 use Rattle.message.specs.declared.Kind.{Kind}
 use Rattle.message.specs.declared.Kind.the-variants as kind
@@ -12,9 +13,11 @@ use Rattle.message.specs.declared.Message.the-variants.{Depth, WindAngle, WindS
 use Rattle.message.specs.declared.Reading.the-variants.{Read}
 use Rattle.message.specs.declared.Verdict.the-variants.{InRange}
 use Rattle.message.specs.Range.{rangeOf}
-use Rattle.message.specs.Spelling.{bytesOf}
+use Rattle.message.specs.Spelling.{bytesOf, symbolsOf}
 use Rattle.message.specs.Reading.{readOf}
 use Rattle.message.specs.Ignored.{ignored, asWritten}
+use Rattle.writer.specs.declared.Written.the-variants.{Wrote}
+use Rattle.writer.specs.Writing.{outcome, writeOf}
 
 -- every number is a byte
 abbrev pub allBytes : List ℕ → Bool
@@ -44,6 +47,11 @@ kindOf (Variation east) = kind.Variation
 kindOf (Turn degrees right rudder) = kind.Turn
 
 pub record RoundTrip : Type 0 where
+  -- given room, a message in range is written: its symbols from the place on, every other number as it was
+  pub written : (m : Message) (buffer : List ℕ) (at : ℕ) → rangeOf m ≡ InRange → at + length (bytesOf m) ≤ length buffer
+      → writeOf m buffer at ≡ outcome (Wrote (length (bytesOf m))) (take at buffer ++ (symbolsOf m ++ drop (at + length (bytesOf m)) buffer))
+  -- the writer accepts no other message
+  pub accepted : (m : Message) (buffer : List ℕ) (at n : ℕ) → writeOf m buffer at .answer ≡ Wrote n → rangeOf m ≡ InRange
   -- what the writer gives is a whole datagram of bytes
   pub whole-datagram : (m : Message) → whole (bytesOf m) ≡ true
   pub all-bytes : (m : Message) → allBytes (bytesOf m) ≡ true

@@ -2,6 +2,7 @@
 mod kinds;
 mod store;
 
+use datagram::NO_ROOM;
 use datagram::Refusal;
 use message::Message;
 use message::Verdict;
@@ -25,10 +26,7 @@ pub fn write(m: Message, buf: &mut [u16], at: usize) -> Written
             if at <= buf.len() {
                 put(m, &mut buf[at..])
             } else {
-                Written::Refused(Refusal {
-                    number: 8,
-                    place: 0,
-                })
+                Written::Refused(NO_ROOM)
             }
         }
     }

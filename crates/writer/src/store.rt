@@ -1,6 +1,6 @@
 // Storing a datagram of each length at the front of a lent part: all of its symbols, or none where there is no room.
 use crate::Written;
-use datagram::Refusal;
+use datagram::NO_ROOM;
 ghost use mathlib.Core.Path.{_≡_};
 ghost use mathlib.Core.List.{[], _∷_};
 ghost use Rattle.writer.specs.Writing.{outcome, storeOf};
@@ -9,10 +9,7 @@ pub fn store3(part: &mut [u16], a: u8, b: u8, c: u8) -> Written
     ensures { λ r. ⌜ outcome r (now (part .exit)) ≡ storeOf (a ∷ b ∷ c ∷ []) (now (part .entry)) ⌝ }
 {
     if part.len() < 3 {
-        return Written::Refused(Refusal {
-            number: 8,
-            place: 0,
-        });
+        return Written::Refused(NO_ROOM);
     }
     part[0] = 256 + a as u16;
     part[1] = b as u16;
@@ -24,10 +21,7 @@ pub fn store4(part: &mut [u16], a: u8, b: u8, c: u8, d: u8) -> Written
     ensures { λ r. ⌜ outcome r (now (part .exit)) ≡ storeOf (a ∷ b ∷ c ∷ d ∷ []) (now (part .entry)) ⌝ }
 {
     if part.len() < 4 {
-        return Written::Refused(Refusal {
-            number: 8,
-            place: 0,
-        });
+        return Written::Refused(NO_ROOM);
     }
     part[0] = 256 + a as u16;
     part[1] = b as u16;
@@ -40,10 +34,7 @@ pub fn store5(part: &mut [u16], a: u8, b: u8, c: u8, d: u8, e: u8) -> Written
     ensures { λ r. ⌜ outcome r (now (part .exit)) ≡ storeOf (a ∷ b ∷ c ∷ d ∷ e ∷ []) (now (part .entry)) ⌝ }
 {
     if part.len() < 5 {
-        return Written::Refused(Refusal {
-            number: 8,
-            place: 0,
-        });
+        return Written::Refused(NO_ROOM);
     }
     part[0] = 256 + a as u16;
     part[1] = b as u16;
@@ -57,10 +48,7 @@ pub fn store7(part: &mut [u16], a: u8, b: u8, c: u8, d: u8, e: u8, f: u8, g: u8)
     ensures { λ r. ⌜ outcome r (now (part .exit)) ≡ storeOf (a ∷ b ∷ c ∷ d ∷ e ∷ f ∷ g ∷ []) (now (part .entry)) ⌝ }
 {
     if part.len() < 7 {
-        return Written::Refused(Refusal {
-            number: 8,
-            place: 0,
-        });
+        return Written::Refused(NO_ROOM);
     }
     part[0] = 256 + a as u16;
     part[1] = b as u16;

@@ -1,11 +1,7 @@
 -- `bits_of` adds 2^32 in 64 bits, where nothing overflows or is negative, and keeps the low 32 bits.
 use borrow.Author.Needs.{needs}
-use mathlib.Core.Path.{_∙_, ap}
-use Prim.Native.Nat.{ℕ, _%_}
 use native.Mathlib.Omega.{arith}
-use lib.IntN.{ℤ, natAbs}
 use mir.Syntax.{w32, w64}
-use mir.Val.{toZ, ofZ}
 use mir.ValLaws.{toZ-ofZ, toZ-pos}
 use Rattle.number.proofs.Signed.{lift, lift-small, lift-bits, wide, lifted}
 use Rattle.number.proofs.bits_of.Statement.{statement}

@@ -1,7 +1,6 @@
 -- `judge` lets a message stand where its verdict is in range.
 use borrow.Author.Needs.{needs}
 use mathlib.Core.Path.{sym, ap, _∙_}
-use Rattle.message.specs.declared.Reading.{Reading}
 use Rattle.message.specs.Reading.{judged, ruled}
 use Rattle.message.specs.declared.Verdict.{Verdict}
 use Rattle.reader.proofs.judge.Statement.{statement}

@@ -1,10 +1,7 @@
 -- `read` tests for a whole datagram, looks the command up and reads by its row, as the definition does.
 use borrow.Author.Needs.{needs}
-use mathlib.Core.Path.{_∙_, sym, ap}
-use denote.Ref.{now}
-use Rattle.message.specs.declared.Lookup.{Lookup}
-use Rattle.message.specs.Table.{findOf}
-use Rattle.message.specs.Reading.{readOf, readAs}
+use mathlib.Core.Path.{_∙_, sym}
+use Rattle.message.specs.Reading.{readOf}
 use Rattle.reader.proofs.read.Statement.{statement}
 use Rattle.reader.proofs.read.Tie as tie
 

@@ -5,22 +5,16 @@ use Rattle.message.specs.declared.Verdict.{Verdict}
 use Rattle.message.specs.Range.{andThen}
 use Rattle.message.proofs.range.first_of.Statement.{statement}
 use Rattle.message.proofs.range.first_of.Tie as tie
-use Rattle.message.proofs.range.first_of.Reads as reads
-use Rattle.message.proofs.range.first_of.Lts as lts
 
--- src/range.rt:51:29
 enum-told : tie.Need-enum-told
 enum-told c = search needs
 
--- src/range.rt:52:26
 enum-known-first : tie.Need-enum-known-first
 enum-known-first c = search needs
 
--- src/range.rt:47:1
 returns : tie.Need-returns
 returns c = search needs
 
--- src/range.rt:47:1
 returns-2 : tie.Need-returns-2
 returns-2 c = sym (ap (λ (v : Verdict). andThen v (c .before .before .before .args .later)) (c .before .first .given .1))
 

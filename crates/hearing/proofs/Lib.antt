@@ -1,0 +1,4 @@
+pub mod Framing
+pub mod Demand
+pub mod Instance
+pub mod RuledOut
