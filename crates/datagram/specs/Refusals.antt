@@ -36,3 +36,7 @@ outOfRange field = refusal 7
 -- no room for the symbols in the lent buffer
 abbrev pub noRoom : Refusal
 noRoom = refusal 8
+
+-- a wait or an attempt limit is out of range
+abbrev pub badWaitOrLimit : Refusal
+badWaitOrLimit = refusal 9

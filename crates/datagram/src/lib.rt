@@ -1,5 +1,7 @@
 // Symbols, whole datagrams and refusals: the words that every other layer shares.
 ghost use mathlib.Core.Path.{_≡_};
+ghost use lib.ListN.{drop};
+ghost use Rattle.datagram.specs.Padding.{allZero};
 ghost use Rattle.datagram.specs.Whole.{whole};
 
 // A refusal's number and its place, as document 01 lists them.
@@ -44,6 +46,11 @@ pub const NO_ROOM: Refusal = Refusal {
     place: 0,
 };
 
+pub const BAD_WAIT_OR_LIMIT: Refusal = Refusal {
+    number: 9,
+    place: 0,
+};
+
 // Whether the bytes are one whole datagram.
 pub fn is_whole(bytes: &[u8]) -> bool
     ensures { λ r. ⌜ r ≡ whole (now (bytes .entry)) ⌝ }
@@ -56,4 +63,18 @@ pub fn is_whole(bytes: &[u8]) -> bool
         return false;
     }
     n == 3 + bytes[1] as usize % 16
+}
+
+// Whether every byte from a place on is 0.
+pub fn zeros_from(bytes: &[u8], from: usize) -> bool
+    ensures { λ r. ⌜ r ≡ allZero (drop from (now (bytes .entry))) ⌝ }
+{
+    let mut i = from;
+    while i < bytes.len() {
+        if bytes[i] != 0 {
+            return false;
+        }
+        i += 1;
+    }
+    true
 }

@@ -9,10 +9,10 @@ use lib.Dec.{leb, ltb, eqb}
 use lib.ListN.{length, getD, drop, replicate, take-append-drop, length-drop}
 use lib.Seq.{length-take-le}
 use Rattle.datagram.specs.Whole.{declared}
-use Rattle.datagram.specs.Padding.{padTo}
+use Rattle.datagram.specs.Padding.{padTo, allZero}
 use Rattle.datagram.proofs.Padding.{getD-pad, take-pad, drop-pad}
 use Rattle.listener.specs.declared.Listener.{Listener}
-use Rattle.listener.specs.State.{sound, heldBytes, holding, allZero}
+use Rattle.listener.specs.State.{sound, heldBytes, holding}
 
 module _ (held second : ℕ) (zeros : Bool) where
   one-test : (short two : Bool) → ltb held (declared second) ≡ short → leb 2 held ≡ two → leb held 17 && (zeros && cond two short true) ≡ short && zeros

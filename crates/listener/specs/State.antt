@@ -5,7 +5,7 @@ use mathlib.Core.List.{List, [], _∷_}
 use lib.Dec.{leb, ltb, eqb}
 use lib.ListN.{length, getD, take, drop}
 use Rattle.datagram.specs.Whole.{declared}
-use Rattle.datagram.specs.Padding.{padTo}
+use Rattle.datagram.specs.Padding.{padTo, allZero}
 use Rattle.listener.specs.declared.Listener.{Listener}
 
 -- the bytes that a state holds
@@ -15,10 +15,6 @@ heldBytes l = take (l .held) (l .bytes)
 -- the state that holds these bytes, and zeros past them
 abbrev pub holding : List ℕ → Listener
 holding xs = record { bytes = padTo 17 xs; held = length xs }
-
-abbrev pub allZero : List ℕ → Bool
-allZero [] = true
-allZero (x ∷ xs) = eqb x 0 && allZero xs
 
 -- with two or more held, fewer are held than the second declares
 abbrev pub unfinished : Listener → Bool

@@ -43,7 +43,7 @@ pub fn silent() -> Listener
     }
 }
 
-// Whether the state is sound. The declared length is 3 to 18, so one test says that the datagram is not complete and that at most 17 are held.
+// Whether the state is sound. The declared length is 3 to 18, so fewer held than declared are at most 17.
 pub fn is_sound(l: Listener) -> bool
     ensures { λ r. ⌜ r ≡ sound l ⌝ }
 {
@@ -51,14 +51,7 @@ pub fn is_sound(l: Listener) -> bool
     if 3 + l.bytes[1] % 16 <= held {
         return false;
     }
-    let mut i = held as usize;
-    while i < 17 {
-        if l.bytes[i] != 0 {
-            return false;
-        }
-        i += 1;
-    }
-    true
+    datagram::zeros_from(&l.bytes, held as usize)
 }
 
 // Whether the state is empty: sound, with nothing held.
