@@ -1,14 +1,39 @@
--- Document 01's number and values for each case of a message: its command, and its fields in table order, flags 0 or 1.
+-- Document 01's number and values for each case of a message: its kind, its command, and its fields in table order, flags
+-- 0 or 1.
 use Prim.Native.Nat.{ℕ}
 use mathlib.Core.Bool.{Bool}
 use mathlib.Core.List.{List, [], _∷_}
 use lib.IntN.{ℤ, pos}
 use Rattle.number.specs.Word.{num}
+use Rattle.message.specs.declared.Kind.{Kind}
+use Rattle.message.specs.declared.Kind.the-variants as kind
 use Rattle.message.specs.declared.Message.{Message}
 use Rattle.message.specs.declared.Message.the-variants.{Depth, WindAngle, WindSpeed, Speed, Trip, Total, Logs, Speeds, Water, Lamp, Latitude, Longitude, Ground, Course, Time, Date, Key, Heading, Variation, Turn}
 
 abbrev flag : Bool → ℤ
 flag on = pos (num on)
+
+unfoldable pub kindOf : Message → Kind
+kindOf (Depth tenths anchor metric defective deep shallow) = kind.Depth
+kindOf (WindAngle halves) = kind.WindAngle
+kindOf (WindSpeed tenths metres) = kind.WindSpeed
+kindOf (Speed tenths) = kind.Speed
+kindOf (Trip hundredths) = kind.Trip
+kindOf (Total tenths) = kind.Total
+kindOf (Logs total trip) = kind.Logs
+kindOf (Speeds speed average valid stopped mph) = kind.Speeds
+kindOf (Water tenths) = kind.Water
+kindOf (Lamp level) = kind.Lamp
+kindOf (Latitude degrees hundredths south) = kind.Latitude
+kindOf (Longitude degrees hundredths east) = kind.Longitude
+kindOf (Ground tenths) = kind.Ground
+kindOf (Course halves) = kind.Course
+kindOf (Time hours minutes seconds) = kind.Time
+kindOf (Date month day year) = kind.Date
+kindOf (Key source code) = kind.Key
+kindOf (Heading halves reference locked) = kind.Heading
+kindOf (Variation east) = kind.Variation
+kindOf (Turn degrees right rudder) = kind.Turn
 
 unfoldable pub commandOf : Message → ℕ
 commandOf (Depth tenths anchor metric defective deep shallow) = 0x00

@@ -21,7 +21,7 @@ use Rattle.message.specs.Range.{rangeOf, atMost, fromOne, within, andThen}
 use Rattle.message.specs.Spelling.{bytesOf}
 use Rattle.message.specs.Decode.{spelled}
 use Rattle.message.specs.Reading.{readKind}
-use Rattle.roundtrip.specs.Laws.{kindOf}
+use Rattle.message.specs.Fields.{kindOf}
 use Rattle.roundtrip.proofs.Lists.{num-small}
 use Rattle.roundtrip.proofs.Limits.{at-most, from-one, inside, both, both-at-most}
 use Rattle.roundtrip.proofs.Signs.{water-reads, rudder-reads, variation-reads}

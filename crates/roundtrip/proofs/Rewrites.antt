@@ -29,7 +29,7 @@ use Rattle.message.specs.Decode.{spelled}
 use Rattle.message.specs.Reading.{byte, readKind}
 use Rattle.message.specs.Table.{kinds}
 use Rattle.message.specs.Ignored.{ignored}
-use Rattle.roundtrip.specs.Laws.{kindOf}
+use Rattle.message.specs.Fields.{kindOf}
 use Rattle.roundtrip.proofs.Lists.{same, Lists}
 use Rattle.roundtrip.proofs.Standing.{AllStand, kept, clear, six-bits, seven}
 use Rattle.roundtrip.proofs.Rows.{Each, _and_, end}

@@ -13,7 +13,8 @@ use Rattle.message.specs.Spelling.{bytesOf}
 use Rattle.message.specs.Reading.{byte, readOf}
 use Rattle.message.specs.Table.{findOf}
 use Rattle.message.specs.Ignored.{ignored, asWritten}
-use Rattle.roundtrip.specs.Laws.{RoundTrip, allBytes, kindOf}
+use Rattle.roundtrip.specs.Laws.{RoundTrip, allBytes}
+use Rattle.message.specs.Fields.{kindOf}
 use Rattle.roundtrip.proofs.Lists.{of-length}
 use Rattle.roundtrip.proofs.Bytes.{whole-datagram, all-bytes}
 use Rattle.roundtrip.proofs.Frame.{read, frame}

@@ -14,7 +14,7 @@ use Rattle.message.specs.declared.Message.the-variants.{Depth, WindAngle, WindS
 use Rattle.message.specs.Spelling.{bytesOf}
 use Rattle.message.specs.Table.{kinds, rowIn, findOf}
 use Rattle.message.specs.Reading.{byte}
-use Rattle.roundtrip.specs.Laws.{kindOf}
+use Rattle.message.specs.Fields.{kindOf}
 
 -- a message is written with the command and the length of its kind's row
 abbrev pub rowOf : Message → Row

@@ -6,12 +6,10 @@ use Prim.Native.Nat.{ℕ, _+_, _≤_}
 use lib.Dec.{ltb}
 use lib.ListN.{length, take, drop}
 use Rattle.datagram.specs.Whole.{whole}
-use Rattle.message.specs.declared.Kind.{Kind}
-use Rattle.message.specs.declared.Kind.the-variants as kind
 use Rattle.message.specs.declared.Message.{Message}
-use Rattle.message.specs.declared.Message.the-variants.{Depth, WindAngle, WindSpeed, Speed, Trip, Total, Logs, Speeds, Water, Lamp, Latitude, Longitude, Ground, Course, Time, Date, Key, Heading, Variation, Turn}
 use Rattle.message.specs.declared.Reading.the-variants.{Read}
 use Rattle.message.specs.declared.Verdict.the-variants.{InRange}
+use Rattle.message.specs.Fields.{kindOf}
 use Rattle.message.specs.Range.{rangeOf}
 use Rattle.message.specs.Spelling.{bytesOf, symbolsOf}
 use Rattle.message.specs.Reading.{readOf}
@@ -23,28 +21,6 @@ use Rattle.writer.specs.Writing.{outcome, writeOf}
 abbrev pub allBytes : List ℕ → Bool
 allBytes [] = true
 allBytes (x ∷ xs) = ltb x 256 && allBytes xs
-
-unfoldable pub kindOf : Message → Kind
-kindOf (Depth tenths anchor metric defective deep shallow) = kind.Depth
-kindOf (WindAngle halves) = kind.WindAngle
-kindOf (WindSpeed tenths metres) = kind.WindSpeed
-kindOf (Speed tenths) = kind.Speed
-kindOf (Trip hundredths) = kind.Trip
-kindOf (Total tenths) = kind.Total
-kindOf (Logs total trip) = kind.Logs
-kindOf (Speeds speed average valid stopped mph) = kind.Speeds
-kindOf (Water tenths) = kind.Water
-kindOf (Lamp level) = kind.Lamp
-kindOf (Latitude degrees hundredths south) = kind.Latitude
-kindOf (Longitude degrees hundredths east) = kind.Longitude
-kindOf (Ground tenths) = kind.Ground
-kindOf (Course halves) = kind.Course
-kindOf (Time hours minutes seconds) = kind.Time
-kindOf (Date month day year) = kind.Date
-kindOf (Key source code) = kind.Key
-kindOf (Heading halves reference locked) = kind.Heading
-kindOf (Variation east) = kind.Variation
-kindOf (Turn degrees right rudder) = kind.Turn
 
 pub record RoundTrip : Type 0 where
   -- given room, a message in range is written: its symbols from the place on, every other number as it was

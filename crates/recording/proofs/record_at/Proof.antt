@@ -1,0 +1,128 @@
+-- `record_at` makes the definition's tests of the offset, and judges the eight bytes there.
+use borrow.Author.Needs.{needs}
+use borrow.Author.Tests.{eq-eqb, ne-eqb, le-leb, lt-leb}
+use mathlib.Core.Path.{_∙_}
+use Prim.Native.Nat.{_+_}
+use native.Mathlib.Omega.{arith}
+use Rattle.recording.specs.Record.{recordOf}
+use Rattle.recording.proofs.record_at.Statement.{statement}
+use Rattle.recording.proofs.record_at.Tie as tie
+
+refused-requires : tie.Need-refused-requires
+refused-requires c κs = search needs
+
+returns : tie.Need-returns
+unfolding recordOf
+returns c = c .refused .ensures ∙ rw (lt-leb _ _ (c .before .if1 .taken))
+
+returns-2 : tie.Need-returns-2
+unfolding recordOf
+returns-2 c = rw (le-leb _ _ (c .before .if1 .left), eq-eqb _ _ (c .if2 .taken))
+
+refused-requires-2 : tie.Need-refused-requires-2
+refused-requires-2 c κs = search needs
+
+returns-3 : tie.Need-returns-3
+unfolding recordOf
+returns-3 c = c .refused2 .ensures ∙ rw (le-leb _ _ (c .before .before .before .if1 .left), ne-eqb _ _ (c .before .before .if2 .left), lt-leb _ _ (c .before .if3 .taken))
+
+shared-slice-read-judged : tie.Need-shared-slice-read-judged
+shared-slice-read-judged c = search needs
+
+add-judged : tie.Need-add-judged
+add-judged c = search needs
+
+shared-slice-read-judged-2 : tie.Need-shared-slice-read-judged-2
+shared-slice-read-judged-2 c = search needs
+
+add-word-of : tie.Need-add-word-of
+add-word-of c = search needs
+
+shared-slice-read-word-of : tie.Need-shared-slice-read-word-of
+shared-slice-read-word-of c = search needs
+
+add-word-of-2 : tie.Need-add-word-of-2
+add-word-of-2 c = search needs
+
+shared-slice-read-word-of-2 : tie.Need-shared-slice-read-word-of-2
+shared-slice-read-word-of-2 c = search needs
+
+word-of-requires : tie.Need-word-of-requires
+word-of-requires c κs = search needs
+
+add-word-of-3 : tie.Need-add-word-of-3
+add-word-of-3 c = search needs
+
+shared-slice-read-word-of-3 : tie.Need-shared-slice-read-word-of-3
+shared-slice-read-word-of-3 c = search needs
+
+add-word-of-4 : tie.Need-add-word-of-4
+add-word-of-4 c = search needs
+
+shared-slice-read-word-of-4 : tie.Need-shared-slice-read-word-of-4
+shared-slice-read-word-of-4 c = search needs
+
+word-of-requires-2 : tie.Need-word-of-requires-2
+word-of-requires-2 c κs = search needs
+
+add-word-of-5 : tie.Need-add-word-of-5
+add-word-of-5 c = search needs
+
+shared-slice-read-word-of-5 : tie.Need-shared-slice-read-word-of-5
+shared-slice-read-word-of-5 c = search needs
+
+add-word-of-6 : tie.Need-add-word-of-6
+add-word-of-6 c = search needs
+
+shared-slice-read-word-of-6 : tie.Need-shared-slice-read-word-of-6
+shared-slice-read-word-of-6 c = search needs
+
+word-of-requires-3 : tie.Need-word-of-requires-3
+word-of-requires-3 c κs = search needs
+
+judged-requires : tie.Need-judged-requires
+judged-requires c κs =
+    omega (arith, c .word-of3 .ensures, c .before .before .before .word-of2 .ensures, c .before .before .before .before .before .before .word-of .ensures, c .before .shared-slice-known9 .given (c .before .before .before .before .before .before .before .before .before .before .before .before .before .before .before .args .at + 7), c .before .before .shared-slice-known8 .given (c .before .before .before .before .before .before .before .before .before .before .before .before .before .before .before .args .at + 6), c .before .before .before .before .shared-slice-known7 .given (c .before .before .before .before .before .before .before .before .before .before .before .before .before .before .before .args .at + 5), c .before .before .before .before .before .shared-slice-known6 .given (c .before .before .before .before .before .before .before .before .before .before .before .before .before .before .before .args .at + 4), c .before .before .before .before .before .before .before .shared-slice-known5 .given (c .before .before .before .before .before .before .before .before .before .before .before .before .before .before .before .args .at + 3), c .before .before .before .before .before .before .before .before .shared-slice-known4 .given (c .before .before .before .before .before .before .before .before .before .before .before .before .before .before .before .args .at + 2))
+
+returns-4 : tie.Need-returns-4
+unfolding recordOf
+returns-4 c =
+    c .judged .ensures
+    ∙ rw (
+      c .before .word-of3 .ensures,
+      c .before .before .before .before .word-of2 .ensures,
+      c .before .before .before .before .before .before .before .word-of .ensures,
+      le-leb _ _ (c .before .before .before .before .before .before .before .before .before .before .before .before .before .before .if1 .left),
+      ne-eqb _ _ (c .before .before .before .before .before .before .before .before .before .before .before .before .before .if2 .left),
+      le-leb _ _ (c .before .before .before .before .before .before .before .before .before .before .before .before .if3 .left),
+    )
+
+pub record-at-spec : {M : Type 1} → statement M
+record-at-spec =
+    tie.close
+    (tie.spec
+    refused-requires
+    returns
+    returns-2
+    refused-requires-2
+    returns-3
+    shared-slice-read-judged
+    add-judged
+    shared-slice-read-judged-2
+    add-word-of
+    shared-slice-read-word-of
+    add-word-of-2
+    shared-slice-read-word-of-2
+    word-of-requires
+    add-word-of-3
+    shared-slice-read-word-of-3
+    add-word-of-4
+    shared-slice-read-word-of-4
+    word-of-requires-2
+    add-word-of-5
+    shared-slice-read-word-of-5
+    add-word-of-6
+    shared-slice-read-word-of-6
+    word-of-requires-3
+    judged-requires
+    returns-4)

@@ -1,0 +1,66 @@
+// The recording reader: records of eight bytes, a mark, a time and a symbol.
+use datagram::Refusal;
+use number::word_of;
+ghost use mathlib.Core.Path.{_≡_};
+ghost use Prim.Native.Nat.{_+_, _*_, _<_};
+ghost use Rattle.recording.specs.Record.{recordOf, judgedRecord, refusedAt};
+
+// What stands at an offset of a recording.
+pub enum Record {
+    Heard { time: u32, symbol: u16 },
+    End,
+    Refused(Refusal),
+}
+
+// The record at an offset: its time and symbol, the end, or refusal 11, 10 or 1, in that order, with the offset as the place.
+pub fn record_at(bytes: &[u8], at: usize) -> Record
+    ensures { λ r. ⌜ r ≡ recordOf (now (bytes .entry)) at ⌝ }
+{
+    let n = bytes.len();
+    if n < at {
+        return refused(11, at);
+    }
+    if n == at {
+        return Record::End;
+    }
+    if n - at < 8 {
+        return refused(11, at);
+    }
+    judged(
+        at,
+        bytes[at],
+        bytes[at + 1],
+        word_of(bytes[at + 2], bytes[at + 3]),
+        word_of(bytes[at + 4], bytes[at + 5]),
+        word_of(bytes[at + 6], bytes[at + 7]),
+    )
+}
+
+// The record of a mark, the two words of the time and the symbol's word.
+fn judged(at: usize, mark: u8, second: u8, low: u32, high: u32, symbol: u32) -> Record
+    requires { ⌜ (low < 65536) × ((high < 65536) × (symbol < 65536)) ⌝ }
+    ensures { λ r. ⌜ r ≡ judgedRecord at mark second (low + 65536 * high) symbol ⌝ }
+{
+    if mark != 0x53 {
+        return refused(10, at);
+    }
+    if second != 0x54 {
+        return refused(10, at);
+    }
+    if 511 < symbol {
+        return refused(1, at);
+    }
+    Record::Heard {
+        time: low + 65536 * high,
+        symbol: symbol as u16,
+    }
+}
+
+fn refused(number: u8, at: usize) -> Record
+    ensures { λ r. ⌜ r ≡ refusedAt number at ⌝ }
+{
+    Record::Refused(Refusal {
+        number: number,
+        place: at as u64,
+    })
+}

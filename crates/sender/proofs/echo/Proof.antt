@@ -1,0 +1,127 @@
+-- `echo` makes the definition's tests in the definition's order; where it awaits an echo, soundness gives what the two answers require.
+use borrow.Author.Needs.{needs}
+use borrow.Author.Tests.{lt-ltb, le-ltb, eq-eqb, ne-eqb, not-true, not-false}
+use Prim.Native.Nat.{_<_}
+use mathlib.Core.Path.{_≡_, sym, ap, _∙_}
+use mathlib.Core.Bool.{true, false}
+use native.Mathlib.Omega.{arith}
+use Rattle.sender.specs.declared.Phase.{Phase}
+use Rattle.sender.specs.State.{sound, lengthOf, symbolAt}
+use Rattle.sender.specs.Step.{echoOf, echoed}
+use Rattle.sender.proofs.State.{awaits}
+use Rattle.sender.proofs.echo.Statement.{statement}
+use Rattle.sender.proofs.echo.Tie as tie
+
+past-sound : (c : tie.Else2) → sound (c .before .before .before .args .s) ≡ true
+past-sound c = sym (c .before .is-sound .ensures) ∙ not-false _ (c .if2 .left)
+
+-- past the refusals it goes by the phase
+goes-by : (c : tie.Else2) (p : Phase) → let a = c .before .before .before .args in a .s .phase ≡ p → echoOf (a .s) (a .symbol) ≡ echoed p (a .s) (a .symbol)
+unfolding echoOf
+goes-by c p e =
+    let a = c .before .before .before .args in
+    rw (le-ltb 511 (a .symbol) (omega arith), past-sound c) (ap (λ (q : Phase). echoed q (a .s) (a .symbol)) e)
+
+-- where it awaits an echo
+awaiting : (c : tie.After-enum-told2) → let s = c .before .before .before .before .before .args .s in (s .place < lengthOf s) × (s .failures < s .limit)
+awaiting c = awaits _ (past-sound (c .before .before)) (c .enum-told2 .given .1)
+
+answered-requires : tie.Need-answered-requires
+answered-requires c κs = search needs
+
+returns : tie.Need-returns
+unfolding echoOf
+returns c = c .answered .ensures ∙ rw (lt-ltb 511 (c .before .before .args .symbol) (omega arith))
+
+is-sound-requires : tie.Need-is-sound-requires
+is-sound-requires c κs = search needs
+
+answered-requires-2 : tie.Need-answered-requires-2
+answered-requires-2 c κs = search needs
+
+returns-2 : tie.Need-returns-2
+unfolding echoOf
+returns-2 c =
+    let a = c .before .before .before .before .args in
+    let unsound : sound (a .s) ≡ false = sym (c .before .before .is-sound .ensures) ∙ not-true _ (c .before .if2 .taken) in
+    c .answered2 .ensures ∙ rw (le-ltb 511 (a .symbol) (omega arith), unsound)
+
+enum-told : tie.Need-enum-told
+enum-told c = search needs
+
+answered-requires-3 : tie.Need-answered-requires-3
+answered-requires-3 c κs = search needs
+
+enum-told-2 : tie.Need-enum-told-2
+enum-told-2 c = search needs
+
+symbol-at-requires : tie.Need-symbol-at-requires
+symbol-at-requires c κs = search needs
+
+heard-right-requires : tie.Need-heard-right-requires
+heard-right-requires c κs = awaiting (c .before .before) .0
+
+heard-wrong-requires : tie.Need-heard-wrong-requires
+heard-wrong-requires c κs = awaiting (c .before .before) .1
+
+enum-told-3 : tie.Need-enum-told-3
+enum-told-3 c = search needs
+
+answered-requires-4 : tie.Need-answered-requires-4
+answered-requires-4 c κs = search needs
+
+enum-told-4 : tie.Need-enum-told-4
+enum-told-4 c = search needs
+
+answered-requires-5 : tie.Need-answered-requires-5
+answered-requires-5 c κs = search needs
+
+returns-3 : tie.Need-returns-3
+returns-3 c = c .answered3 .ensures ∙ sym (goes-by (c .before .before .before) _ (c .before .enum-told .given .1))
+
+returns-4 : tie.Need-returns-4
+returns-4 c =
+    let k = c .before .before in
+    let a = k .before .before .before .before .before .before .args in
+    let awaited = k .symbol-at .ensures (omega (arith, awaiting (k .before))) in
+    c .heard-right .ensures
+    ∙ sym (goes-by (k .before .before .before) _ (k .before .enum-told2 .given .1) ∙ rw (eq-eqb (a .symbol) (symbolAt (a .s) (a .s .place)) (omega arith)))
+
+returns-5 : tie.Need-returns-5
+returns-5 c =
+    let k = c .before .before in
+    let a = k .before .before .before .before .before .before .args in
+    let awaited = k .symbol-at .ensures (omega (arith, awaiting (k .before))) in
+    c .heard-wrong .ensures
+    ∙ sym (goes-by (k .before .before .before) _ (k .before .enum-told2 .given .1) ∙ rw (ne-eqb (a .symbol) (symbolAt (a .s) (a .s .place)) (λ e. omega arith)))
+
+returns-6 : tie.Need-returns-6
+returns-6 c = c .answered4 .ensures ∙ sym (goes-by (c .before .before .before) _ (c .before .enum-told3 .given .1))
+
+returns-7 : tie.Need-returns-7
+returns-7 c = c .answered5 .ensures ∙ sym (goes-by (c .before .before .before) _ (c .before .enum-told4 .given .1))
+
+pub echo-spec : {M : Type 1} → statement M
+echo-spec =
+    tie.close
+    (tie.spec
+    answered-requires
+    returns
+    is-sound-requires
+    answered-requires-2
+    returns-2
+    enum-told
+    answered-requires-3
+    enum-told-2
+    symbol-at-requires
+    heard-right-requires
+    heard-wrong-requires
+    enum-told-3
+    answered-requires-4
+    enum-told-4
+    answered-requires-5
+    returns-3
+    returns-4
+    returns-5
+    returns-6
+    returns-7)

@@ -1,0 +1,39 @@
+-- What a sender holds, and when its state is sound.
+use Prim.Native.Nat.{ℕ}
+use mathlib.Core.Bool.{Bool, _&&_}
+use mathlib.Core.List.{List}
+use lib.Dec.{leb, ltb, eqb}
+use lib.ListN.{length, getD, take, drop}
+use Rattle.datagram.specs.Whole.{declared, whole, symbols}
+use Rattle.datagram.specs.Padding.{allZero}
+use Rattle.sender.specs.declared.Phase.{Phase}
+use Rattle.sender.specs.declared.Phase.the-variants.{Waiting, Awaiting, Done, GaveUp}
+use Rattle.sender.specs.declared.Sender.{Sender}
+
+-- the number of bytes of the datagram, as its second byte declares it
+abbrev pub lengthOf : Sender → ℕ
+lengthOf s = declared (getD (s .datagram) 1 0)
+
+-- the datagram's bytes, without the zeros past them
+abbrev pub bytesOf : Sender → List ℕ
+bytesOf s = take (lengthOf s) (s .datagram)
+
+-- the symbol at a place of the datagram
+abbrev pub symbolAt : Sender → ℕ → ℕ
+symbolAt s place = getD (symbols (bytesOf s)) place 0
+
+-- the place and the failures as each phase has them
+abbrev pub phaseSound : Phase → ℕ → ℕ → ℕ → ℕ → Bool
+phaseSound Waiting place length failures limit = eqb place 0 && ltb failures limit
+phaseSound Awaiting place length failures limit = ltb place length && ltb failures limit
+phaseSound Done place length failures limit = eqb place length && ltb failures limit
+phaseSound GaveUp place length failures limit = eqb place 0 && eqb failures limit
+
+-- the datagram is whole, the bytes past it are 0, the wait is 10..255, the limit 1..50, and the phase is as it should be
+unfoldable pub sound : Sender → Bool
+sound s =
+    whole (bytesOf s)
+    && (allZero (drop (lengthOf s) (s .datagram))
+    && ((leb 10 (s .wait) && leb (s .wait) 255)
+    && ((leb 1 (s .limit) && leb (s .limit) 50)
+    && phaseSound (s .phase) (s .place) (lengthOf s) (s .failures) (s .limit))))

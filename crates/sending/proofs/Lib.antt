@@ -1,0 +1,10 @@
+pub mod Choice
+pub mod Sound
+pub mod Moves
+pub mod Kept
+pub mod Starts
+pub mod Runs
+pub mod Sent
+pub mod Offers
+pub mod Laws
+pub mod Times

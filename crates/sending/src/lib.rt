@@ -1,0 +1,1 @@
+// The sender over any list of calls, as theorems. This crate has no function.
