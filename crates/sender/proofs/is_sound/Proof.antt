@@ -1,8 +1,8 @@
 -- `is_sound` makes the definition's tests but two that always pass: 18 bytes begin with a whole datagram, and a `u8` is at most 255.
 use borrow.Author.Needs.{needs}
 use borrow.Author.Tests.{lt-leb, le-leb, not-true, not-false}
-use Prim.Native.Nat.{ℕ, _≤_}
-use mathlib.Core.Path.{_≡_, sym, ap, _∙_}
+use Prim.Native.Nat.{_≤_}
+use mathlib.Core.Path.{_≡_}
 use mathlib.Core.Bool.{true, false, and-false}
 use native.Mathlib.Omega.{arith}
 use lib.ListN.{drop}
@@ -11,11 +11,6 @@ use Rattle.sender.specs.State.{lengthOf}
 use Rattle.sender.proofs.State.{sound-is}
 use Rattle.sender.proofs.is_sound.Statement.{statement}
 use Rattle.sender.proofs.is_sound.Tie as tie
-
-zeros-read : (c : tie.After-zeros-from) → let s = c .before .before .before .before .before .before .before .before .args .t1 in c .zeros-from .result ≡ allZero (drop (lengthOf s) (s .datagram))
-zeros-read c =
-    let w = c .before .before .before .before .before .before .before in
-    c .zeros-from .ensures ∙ ap (λ (n : ℕ). allZero (drop n (w .before .args .t1 .datagram))) (w .length-of .ensures)
 
 length-of-requires : tie.Need-length-of-requires
 length-of-requires c κs = search needs
@@ -44,7 +39,7 @@ zeros-from-requires c κs = search needs
 returns-4 : tie.Need-returns-4
 returns-4 c =
     let s = c .before .before .before .before .before .before .before .before .before .args .t1 in
-    let none : allZero (drop (lengthOf s) (s .datagram)) ≡ false = sym (zeros-read (c .before)) ∙ not-true _ (c .if4 .taken) in
+    let none : allZero (drop (lengthOf s) (s .datagram)) ≡ false = cc (not-true (c .before .zeros-from .result) (c .if4 .taken)) in
     rw (sound-is s (search needs), none)
 
 phase-sound-requires : tie.Need-phase-sound-requires
@@ -54,7 +49,7 @@ returns-5 : tie.Need-returns-5
 returns-5 c =
     let w = c .before .before .before .before .before .before in
     let s = w .before .before .before .before .args .t1 in
-    let all : allZero (drop (lengthOf s) (s .datagram)) ≡ true = sym (zeros-read (c .before .before)) ∙ not-false _ (c .before .if4 .left) in
+    let all : allZero (drop (lengthOf s) (s .datagram)) ≡ true = cc (not-false (c .before .before .zeros-from .result) (c .before .if4 .left)) in
     let wait : s .wait ≤ 255 = search needs in
     rw (sound-is s (search needs), all, le-leb 10 (s .wait) (omega arith), le-leb (s .wait) 255 wait, le-leb 1 (s .limit) (omega arith), le-leb (s .limit) 50 (omega arith), ← w .before .before .before .length-of .ensures)
     (c .phase-sound .ensures)
