@@ -1,5 +1,5 @@
 -- What the writer answers for a key, and what it stored, gives the offer of the definition.
-use mathlib.Core.Path.{_≡_, refl, sym, ap, _∙_}
+use mathlib.Core.Path.{_≡_, ap, _∙_}
 use mathlib.Core.List.{List, [], _∷_}
 use Prim.Native.Nat.{ℕ, _+_, _-_, _*_, _%_}
 use native.Mathlib.Omega.{arith}
@@ -9,7 +9,6 @@ use Rattle.message.specs.declared.Message.the-variants.{Key}
 use Rattle.message.specs.declared.Verdict.{Verdict}
 use Rattle.message.specs.declared.Verdict.the-variants as verdict
 use Rattle.message.specs.Spelling.{bytesOf}
-use Rattle.sender.specs.declared.Offered.{Offered}
 use Rattle.sender.specs.Step.{offerOf, refusedOffer}
 use Rattle.writer.specs.declared.Written.the-variants.{Wrote, Refused}
 use Rattle.writer.specs.Writing.{Outcome, outcome, ruledWrite}

@@ -1,9 +1,8 @@
 -- What an offer, a poll and an echo do.
 use Prim.Native.Nat.{ℕ, _+_, _-_, _%_, _^_}
-use mathlib.Core.Bool.{Bool, _&&_, cond}
+use mathlib.Core.Bool.{_&&_, cond}
 use mathlib.Core.List.{List, []}
 use lib.Dec.{leb, ltb, eqb}
-use lib.ListN.{getD}
 use Rattle.datagram.specs.declared.Refusal.{Refusal}
 use Rattle.datagram.specs.Refusals.{symbolAbove, notSound, notWhole, badWaitOrLimit}
 use Rattle.datagram.specs.Whole.{whole}

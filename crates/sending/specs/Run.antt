@@ -10,7 +10,6 @@ use Rattle.sender.specs.declared.Sender.{Sender}
 use Rattle.sender.specs.declared.Answer.{Answer}
 use Rattle.sender.specs.declared.Answer.the-variants.{Wait, Send, Listening, Done, GaveUp, WaitingAgain, Ignored, Refused}
 use Rattle.sender.specs.declared.Said.{Said}
-use Rattle.sender.specs.State.{lengthOf}
 use Rattle.sender.specs.Step.{pollOf, echoOf}
 
 -- a poll with its two times, or an echo
