@@ -250,9 +250,11 @@ pub const KINDS: [Row; 20] = [
 pub fn find(command: u8) -> Lookup
     ensures { λ r. ⌜ r ≡ findOf command ⌝ }
 {
+    // Copied once: an index of the constant itself would lay the table out at every turn.
+    let table = KINDS;
     let mut i = 0;
     while i < 20 {
-        let row = KINDS[i];
+        let row = table[i];
         if row.command == command {
             return Lookup::Found(row);
         }

@@ -10,10 +10,10 @@ use Rattle.message.proofs.find.Statement.{statement}
 use Rattle.message.proofs.find.Tie as tie
 
 abbrev Inv-loop : tie.InvT-loop
-Inv-loop command i₀ i = (i ≤ 20) × (findOf command ≡ rowIn (drop i kinds) command)
+Inv-loop command table i₀ i = (i ≤ 20) × (findOf command ≡ rowIn (drop i kinds) command)
 
 abbrev μ-loop : tie.MeasureT-loop
-μ-loop command i₀ i = 20 - i
+μ-loop command table i₀ i = 20 - i
 
 loop-holds : tie.Need-loop-holds Inv-loop μ-loop
 unfolding findOf

@@ -1,0 +1,6 @@
+pub mod Stretch
+pub mod Room
+pub mod Records
+pub mod Cuts
+pub mod Counts
+pub mod Laws

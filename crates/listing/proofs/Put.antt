@@ -1,0 +1,47 @@
+-- Text put into a buffer: piece after piece, a store, and the buffer's length.
+use mathlib.Core.Path.{_≡_, refl, ap, _∙_}
+use mathlib.Core.List.{List, [], _∷_, _++_}
+use Prim.Native.Nat.{ℕ, suc, _+_, _<_}
+use native.Mathlib.Nat.{add-zero}
+use native.Mathlib.Omega.{arith}
+use lib.ListN.{length, set, length-append}
+use lib.Seq.{sets, length-sets, set-comm}
+use Rattle.listing.specs.Text.{Put, Placed}
+
+sets-append : (l : List ℕ) (i : ℕ) (xs ys : List ℕ) → sets l i (xs ++ ys) ≡ sets (sets l i xs) (i + length xs) ys
+sets-append l i [] ys = rw add-zero
+sets-append l i (x ∷ xs) ys =
+    let e : suc i + length xs ≡ i + suc (length xs) = omega arith in
+    sets-append (set l i x) (suc i) xs ys ∙ rw e
+
+-- one text after the other is their concatenation
+pub put-then : {a b c t u : List ℕ} {at m n : ℕ} → Put a at t b m → Put b m u c n → Put a at (t ++ u) c n
+put-then {a} {b} {c} {t} {u} {at} {m} {n} p q =
+    record {
+      stored = cc (sets-append a at t u, p .stored, p .moved, q .stored);
+      moved = omega (arith, p .moved, q .moved, length-append t u);
+    }
+
+pub put-nothing : (l : List ℕ) (at : ℕ) → Put l at [] l at
+put-nothing l at = record { stored = refl; moved = omega arith }
+
+-- one store
+pub put-one : (l : List ℕ) (at x : ℕ) → Put l at (x ∷ []) (set l at x) (at + 1)
+put-one l at x = record { stored = refl; moved = omega arith }
+
+pub put-length : {a t b : List ℕ} {at n : ℕ} → Put a at t b n → length b ≡ length a
+put-length {a} {t} {b} {at} p = ap length (p .stored) ∙ length-sets a at t
+
+-- a text at the front
+pub put-placed : {a t b : List ℕ} {n : ℕ} → Put a 0 t b n
+    → _≡_ {A = Placed} (record { buffer = b; count = n }) (record { buffer = sets a 0 t; count = length t })
+put-placed {a} {t} {b} {n} p =
+    let m : n ≡ length t = omega (arith, p .moved) in
+    cc (p .stored)
+
+-- a store before others
+pub set-sets : (l : List ℕ) (i j x : ℕ) (xs : List ℕ) → i < j → set (sets l j xs) i x ≡ sets (set l i x) j xs
+set-sets l i j x [] h = refl
+set-sets l i j x (y ∷ ys) h =
+    set-sets (set l j y) i (suc j) x ys (omega arith)
+    ∙ ap (λ (k : List ℕ). sets k (suc j) ys) (set-comm l j i y x (λ e. omega arith))

@@ -1,0 +1,49 @@
+-- Lists of bytes in hex and of numbers in decimal: one element more, and lengths.
+use mathlib.Core.Path.{_≡_, refl}
+use mathlib.Core.List.{List, [], _∷_, _++_, append-assoc, append-nil}
+use Prim.Native.Nat.{ℕ, suc, _+_, _*_, _≤_, _<_}
+use native.Mathlib.Nat.{min-le-left}
+use native.Mathlib.Numerals.{add-one}
+use native.Mathlib.Omega.{arith}
+use lib.IntN.{ℤ, pos, negsuc}
+use lib.ListN.{length, take, getD, length-append, length-take}
+use lib.Seq.{take-suc}
+use Rattle.listing.specs.Text.{signedDecimal, hexByte, spacedHex, spacedNumbers}
+use Rattle.listing.proofs.Decimal.{decimal-most}
+
+pub take-most : {A : Type 0} (i : ℕ) (xs : List A) → length (take i xs) ≤ i
+take-most i xs = rw length-take (min-le-left i (length xs))
+
+hex-append : (xs ys : List ℕ) → spacedHex (xs ++ ys) ≡ spacedHex xs ++ spacedHex ys
+hex-append [] ys = refl
+hex-append (x ∷ xs) ys = rw (hex-append xs ys)
+
+pub hex-next : (i : ℕ) (xs : List ℕ) → i < length xs → spacedHex (take (i + 1) xs) ≡ spacedHex (take i xs) ++ (32 ∷ hexByte (getD xs i 0))
+hex-next i xs h = rw (add-one, take-suc xs i 0) (hex-append (take i xs) (getD xs i 0 ∷ []))
+
+hex-length : (xs : List ℕ) → length (spacedHex xs) ≡ 3 * length xs
+hex-length [] = refl
+hex-length (x ∷ xs) = omega (arith, hex-length xs)
+
+pub hex-most : (i : ℕ) (xs : List ℕ) → length (spacedHex (take i xs)) ≤ 3 * i
+hex-most i xs = omega (arith, hex-length (take i xs), take-most i xs)
+
+numbers-append : (xs ys : List ℤ) → spacedNumbers (xs ++ ys) ≡ spacedNumbers xs ++ spacedNumbers ys
+numbers-append [] ys = refl
+numbers-append (x ∷ xs) ys = rw (numbers-append xs ys, append-assoc (signedDecimal x))
+
+pub numbers-next : (i : ℕ) (zs : List ℤ) → i < length zs
+    → spacedNumbers (take (i + 1) zs) ≡ spacedNumbers (take i zs) ++ (32 ∷ signedDecimal (getD zs i (pos 0)))
+numbers-next i zs h =
+    rw (add-one, take-suc zs i (pos 0), numbers-append) (simp append-nil)
+
+pub signed-most : (z : ℤ) → length (signedDecimal z) ≤ 21
+signed-most (pos n) = omega (arith, decimal-most n)
+signed-most (negsuc n) = omega (arith, decimal-most (suc n))
+
+pub numbers-length : (zs : List ℤ) → length (spacedNumbers zs) ≤ 22 * length zs
+numbers-length [] = omega arith
+numbers-length (z ∷ zs) = simp length-append (omega (arith, signed-most z, numbers-length zs))
+
+pub numbers-most : (i : ℕ) (zs : List ℤ) → length (spacedNumbers (take i zs)) ≤ 22 * i
+numbers-most i zs = omega (arith, numbers-length (take i zs), take-most i zs)

@@ -1,0 +1,17 @@
+-- `begin` counts nothing and holds nothing.
+use borrow.Author.Needs.{needs}
+use mathlib.Core.Path.{_∙_}
+use Rattle.listing.proofs.block.begin.Statement.{statement}
+use Rattle.listing.proofs.block.begin.Tie as tie
+
+silent-requires : tie.Need-silent-requires
+silent-requires c κs = search needs
+
+progressed-requires : tie.Need-progressed-requires
+progressed-requires c κs = search needs
+
+returns : tie.Need-returns
+returns c = c .progressed .ensures ∙ rw (c .before .silent .ensures)
+
+pub begin-spec : {M : Type 1} → statement M
+begin-spec = tie.close (tie.spec silent-requires progressed-requires returns)

@@ -1,0 +1,32 @@
+-- `end_of` takes the record's case.
+use borrow.Author.Needs.{needs}
+use mathlib.Core.Path.{_∙_, sym, ap}
+use Rattle.listing.specs.Walk.{cutOff}
+use Rattle.listing.proofs.block.end_of.Statement.{statement}
+use Rattle.listing.proofs.block.end_of.Tie as tie
+
+record-at-requires : tie.Need-record-at-requires
+record-at-requires c κs = search needs
+
+enum-told : tie.Need-enum-told
+enum-told c = search needs
+
+enum-told-2 : tie.Need-enum-told-2
+enum-told-2 c = search needs
+
+enum-known-r : tie.Need-enum-known-r
+enum-known-r c = search needs
+
+returns : tie.Need-returns
+returns c = sym (ap cutOff (sym (c .before .before .record-at .ensures) ∙ c .enum-told .given .1))
+
+returns-2 : tie.Need-returns-2
+returns-2 c = sym (ap cutOff (sym (c .before .before .record-at .ensures) ∙ c .enum-told2 .given .1))
+
+returns-3 : tie.Need-returns-3
+returns-3 c = sym (ap cutOff (sym (c .before .before .before .record-at .ensures) ∙ c .before .r .given .1))
+
+pub end-of-spec : {M : Type 1} → statement M
+end-of-spec =
+    tie.close
+    (tie.spec record-at-requires enum-told enum-told-2 enum-known-r returns returns-2 returns-3)

@@ -1,0 +1,27 @@
+-- `put_header` tests the length as the definition does, and puts the line at the front.
+use borrow.Author.Needs.{needs}
+use borrow.Author.Tests.{lt-leb, le-leb}
+use Rattle.listing.specs.Text.{decimal}
+use Rattle.listing.proofs.Put.{put-placed}
+use Rattle.listing.proofs.put_header.Statement.{statement}
+use Rattle.listing.proofs.put_header.Tie as tie
+
+returns : tie.Need-returns
+returns c = rw (lt-leb _ _ (c .if1 .taken))
+
+slice-aggregate-put-bytes : tie.Need-slice-aggregate-put-bytes
+slice-aggregate-put-bytes c = search needs
+
+put-bytes-requires : tie.Need-put-bytes-requires
+put-bytes-requires c κs = search needs
+
+same-length : tie.Need-same-length
+same-length c = search needs
+
+returns-2 : tie.Need-returns-2
+unfolding decimal
+returns-2 c = rw (le-leb _ _ (c .before .before .before .before .before .if1 .left)) (put-placed (c .before .before .put-bytes .ensures))
+
+pub put-header-spec : {M : Type 1} → statement M
+put-header-spec =
+    tie.close (tie.spec returns slice-aggregate-put-bytes put-bytes-requires same-length returns-2)

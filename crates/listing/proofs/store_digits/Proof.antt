@@ -1,0 +1,80 @@
+-- `store_digits` stores two digits a turn, and then the one or two that are left.
+use borrow.Author.Needs.{needs}
+use mathlib.Core.Path.{_∙_}
+use native.Mathlib.Omega.{arith}
+use lib.ListN.{length-set}
+use Rattle.listing.proofs.Decimal.{Partly, partly-none, partly-length, partly-more, partly-keeps, place-one, partly-one, place-two, partly-two}
+use Rattle.listing.proofs.store_digits.Statement.{statement}
+use Rattle.listing.proofs.store_digits.Tie as tie
+
+abbrev Inv-loop : tie.InvT-loop
+Inv-loop out₀ at end n e₀ m₀ out e m = Partly out₀ at n out e m
+
+abbrev μ-loop : tie.MeasureT-loop
+μ-loop out₀ at end n e₀ m₀ out e m = m
+
+loop-holds : tie.Need-loop-holds Inv-loop μ-loop
+loop-holds c = partly-none _ _ _ _ (omega arith) (omega arith)
+
+sub-e : tie.Need-sub-e Inv-loop μ-loop
+sub-e c = omega (arith, partly-length (c .before .loop .inv) (c .loop-test .taken))
+
+store-pair-requires : tie.Need-store-pair-requires Inv-loop μ-loop
+store-pair-requires c κs =
+    let p = c .before .before .loop .inv in
+    omega (arith, p .place, partly-keeps p, partly-length p (c .before .loop-test .taken))
+
+loop-less : tie.Need-loop-less Inv-loop μ-loop
+loop-less c = search needs
+
+loop-again : tie.Need-loop-again Inv-loop μ-loop
+loop-again c =
+    rw (c .before .before .store-pair .ensures) (partly-more (c .before .before .before .before .before .loop .inv) (c .before .before .before .before .loop-test .taken))
+
+cast-out : tie.Need-cast-out Inv-loop μ-loop
+cast-out c = search needs
+
+add-out : tie.Need-add-out Inv-loop μ-loop
+add-out c = search needs
+
+slice-write-out : tie.Need-slice-write-out Inv-loop μ-loop
+slice-write-out c =
+    let p = c .before .before .loop .inv in
+    omega (arith, p .place, partly-keeps p, place-one p (c .if1 .taken))
+
+store-pair-requires-2 : tie.Need-store-pair-requires-2 Inv-loop μ-loop
+store-pair-requires-2 c κs =
+    let p = c .before .before .before .loop .inv in
+    omega (arith, p .place, partly-keeps p, place-two p (omega arith) (omega arith))
+
+same-length : tie.Need-same-length Inv-loop μ-loop
+same-length c = rw length-set (partly-keeps (c .before .before .loop .inv))
+
+returns : tie.Need-returns Inv-loop μ-loop
+returns c = partly-one (c .before .before .loop .inv) (c .if1 .taken)
+
+same-length-2 : tie.Need-same-length-2 Inv-loop μ-loop
+same-length-2 c = c .before .before .store-pair2 .kept .0 ∙ partly-keeps (c .before .before .before .before .before .before .loop .inv)
+
+returns-2 : tie.Need-returns-2 Inv-loop μ-loop
+returns-2 c = c .before .before .store-pair2 .ensures ∙ partly-two (c .before .before .before .before .before .before .loop .inv) (omega arith) (omega arith)
+
+pub store-digits-spec : {M : Type 1} → statement M
+store-digits-spec =
+    tie.close
+    (tie.spec
+    Inv-loop
+    μ-loop
+    loop-holds
+    sub-e
+    store-pair-requires
+    loop-less
+    loop-again
+    cast-out
+    add-out
+    slice-write-out
+    store-pair-requires-2
+    same-length
+    returns
+    same-length-2
+    returns-2)

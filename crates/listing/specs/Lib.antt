@@ -1,0 +1,4 @@
+pub mod Text
+pub mod Words
+pub mod Line
+pub mod Walk

@@ -1,0 +1,55 @@
+-- Numbers as text, in ASCII, and text put into a lent buffer.
+use mathlib.Core.Path.{_≡_}
+use mathlib.Core.Bool.{cond}
+use mathlib.Core.List.{List, [], _∷_, _++_}
+use Prim.Native.Nat.{ℕ, zero, suc, _+_, _/_, _%_}
+use lib.Dec.{leb, ltb}
+use lib.IntN.{ℤ, pos, negsuc}
+use lib.ListN.{length}
+use lib.Seq.{sets}
+
+-- the decimal digits of n, most significant first, before what follows them; fuel bounds their number
+abbrev pub decimalBy : ℕ → ℕ → List ℕ → List ℕ
+decimalBy zero n later = later
+decimalBy (suc fuel) n later = cond (ltb n 10) ((48 + n) ∷ later) (decimalBy fuel (n / 10) ((48 + n % 10) ∷ later))
+
+-- a number below 10^20 in decimal
+unfoldable pub decimal : ℕ → List ℕ
+decimal n = decimalBy 20 n []
+
+-- with a minus sign where it is negative
+abbrev pub signedDecimal : ℤ → List ℕ
+signedDecimal (pos n) = decimal n
+signedDecimal (negsuc n) = 45 ∷ decimal (suc n)
+
+-- a digit below 16, upper case
+abbrev pub hexDigit : ℕ → ℕ
+hexDigit d = cond (ltb d 10) (48 + d) (55 + d)
+
+abbrev pub hexByte : ℕ → List ℕ
+hexByte b = hexDigit (b / 16) ∷ hexDigit (b % 16) ∷ []
+
+-- each byte in hex after a space
+abbrev pub spacedHex : List ℕ → List ℕ
+spacedHex [] = []
+spacedHex (b ∷ bs) = 32 ∷ (hexByte b ++ spacedHex bs)
+
+-- each number in decimal after a space
+abbrev pub spacedNumbers : List ℤ → List ℕ
+spacedNumbers [] = []
+spacedNumbers (z ∷ zs) = 32 ∷ (signedDecimal z ++ spacedNumbers zs)
+
+-- the text was put into the buffer from a place on, and nothing else changed; next is the place after it
+pub record Put (before : List ℕ) (at : ℕ) (text : List ℕ) (after : List ℕ) (next : ℕ) : Type 0 where
+  pub stored : after ≡ sets before at text
+  pub moved : next ≡ at + length text
+
+-- a buffer, and how many of its first bytes are text
+pub record Placed : Type 0 where
+  pub buffer : List ℕ
+  pub count : ℕ
+
+-- the text at the front of a buffer of at least 512 bytes; a shorter one is left alone
+abbrev pub placed : List ℕ → List ℕ → Placed
+placed text buffer =
+    cond (leb 512 (length buffer)) (record { buffer = sets buffer 0 text; count = length text }) (record { buffer = buffer; count = 0 })
