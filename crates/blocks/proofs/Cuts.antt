@@ -47,7 +47,7 @@ record-reached m s at p rest (record-case.Heard time symbol) e l later h = let b
 record-reached m s at p rest record-case.End e l later h = absurd (no-end s at l e)
 record-reached m s at p rest (record-case.Refused r) e l later h = cc
 
-reached : (m : ℕ) (s : List ℕ) (at : ℕ) (p : Progress) → at + 8 * m ≤ length s → walkAll m s at p .stop ≡ Running
+pub reached : (m : ℕ) (s : List ℕ) (at : ℕ) (p : Progress) → at + 8 * m ≤ length s → walkAll m s at p .stop ≡ Running
     → walkAll m s at p .reached ≡ at + 8 * m
 unfolding walkAll
 reached zero s at p l h = omega arith

@@ -5,6 +5,7 @@ use Rattle.blocks.specs.Laws.{BlockLaws}
 use Rattle.blocks.proofs.Room.{rest-of, no-rest}
 use Rattle.blocks.proofs.Cuts.{then-the-rest, already-stopped}
 use Rattle.blocks.proofs.Counts.{all-counted}
+use Rattle.blocks.proofs.Pieces.{any-pieces}
 
 pub block-laws : BlockLaws
 block-laws =
@@ -16,4 +17,5 @@ block-laws =
       handed-counted = all-counted (λ p. p .handed) isHanded (λ p h. refl);
       cancelled-counted = all-counted (λ p. p .cancelled) isCancelled (λ p h. refl);
       stray-counted = all-counted (λ p. p .stray) isStray (λ p h. refl);
+      any-pieces = any-pieces;
     }

@@ -15,7 +15,8 @@ use Rattle.recording.specs.Record.{recordOf}
 use Rattle.listing.specs.declared.Progress.{Progress}
 use Rattle.listing.specs.declared.Stop.{Stop}
 use Rattle.listing.specs.declared.Stop.the-variants.{Running, Stopped}
-use Rattle.listing.specs.Walk.{Walk, walk, behind, walkFrom, walkAll, recordsIn, isHanded, isCancelled, isStray}
+use Rattle.listing.specs.Line.{headerLine}
+use Rattle.listing.specs.Walk.{Walk, walk, behind, walkFrom, walkAll, recordsIn, isHanded, isCancelled, isStray, begun, cutOff, endText, listingOf}
 
 -- a walk whose offsets are counted from so many bytes earlier
 abbrev pub stopFrom : ℕ → Stop → Stop
@@ -39,6 +40,22 @@ answersIn (suc k) s at l = answersTo (recordOf s at) l (λ h. answersIn k s (at 
 abbrev pub howMany : (Answer → Bool) → List Answer → ℕ
 howMany test [] = 0
 howMany test (a ∷ later) = cond (test a) (suc (howMany test later)) (howMany test later)
+
+-- a listing piece by piece: what is left of a piece is listed with the next one, in the progress that it left
+abbrev pub onward : Stop → Progress → ℕ → List ℕ → List ℕ
+onward Running p base later = later
+onward (Stopped r) p base later = endText p (stopFrom base (Stopped r))
+
+abbrev pub pieced : Progress → ℕ → List ℕ → List (List ℕ) → List ℕ
+pieced p base rest [] = endText p (stopFrom base (cutOff (recordOf rest 0)))
+pieced p base rest (piece ∷ pieces) =
+    let w : Walk = walkAll (recordsIn (rest ++ piece)) (rest ++ piece) 0 p in
+    w .text ++ onward (w .stop) (w .progress) base (pieced (w .progress) (base + w .reached) (drop (w .reached) (rest ++ piece)) pieces)
+
+-- the pieces put together
+abbrev pub joined : List (List ℕ) → List ℕ
+joined [] = []
+joined (piece ∷ pieces) = piece ++ joined pieces
 
 pub record BlockLaws : Type 0 where
   -- where the room for a line runs out, the rest of the records gives the rest of the text
@@ -65,3 +82,5 @@ pub record BlockLaws : Type 0 where
       → walkAll n s at p .progress .cancelled % 2 ^ 64 ≡ (p .cancelled + howMany isCancelled (answersIn n s at (p .listener))) % 2 ^ 64
   pub stray-counted : (n : ℕ) (s : List ℕ) (at : ℕ) (p : Progress)
       → walkAll n s at p .progress .stray % 2 ^ 64 ≡ (p .stray + howMany isStray (answersIn n s at (p .listener))) % 2 ^ 64
+  -- so a recording that comes in any pieces is listed as the whole
+  pub any-pieces : (pieces : List (List ℕ)) → headerLine ++ pieced begun 0 [] pieces ≡ listingOf (joined pieces)

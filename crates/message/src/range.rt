@@ -63,40 +63,30 @@ pub fn range_of(m: Message) -> Verdict
     ensures { λ r. ⌜ r ≡ rangeOf m ⌝ }
 {
     match m {
-        Message::Depth {
-            tenths,
-            anchor: _,
-            metric: _,
-            defective: _,
-            deep: _,
-            shallow: _,
-        } => at_most(1, 65535, tenths),
+        Message::Depth { tenths, .. } => at_most(1, 65535, tenths),
         Message::WindAngle { halves } => at_most(1, 719, halves),
-        Message::WindSpeed { tenths, metres: _ } => at_most(1, 1279, tenths),
+        Message::WindSpeed { tenths, .. } => at_most(1, 1279, tenths),
         Message::Speed { tenths } => at_most(1, 65535, tenths),
         Message::Trip { hundredths } => at_most(1, 1048575, hundredths),
         Message::Total { tenths } => at_most(1, 65535, tenths),
         Message::Logs { total, trip } => {
             first_of(at_most(1, 1048575, total), at_most(2, 1048575, trip))
         }
-        Message::Speeds {
-            speed,
-            average,
-            valid: _,
-            stopped: _,
-            mph: _,
-        } => first_of(at_most(1, 65535, speed), at_most(2, 65535, average)),
+        Message::Speeds { speed, average, .. } => first_of(
+            at_most(1, 65535, speed),
+            at_most(2, 65535, average),
+        ),
         Message::Water { tenths } => in_bounds(1, -100, 65435, tenths),
         Message::Lamp { level } => at_most(1, 3, level),
         Message::Latitude {
             degrees,
             hundredths,
-            south: _,
+            ..
         } => first_of(at_most(1, 90, degrees), at_most(2, 5999, hundredths)),
         Message::Longitude {
             degrees,
             hundredths,
-            east: _,
+            ..
         } => first_of(at_most(1, 180, degrees), at_most(2, 5999, hundredths)),
         Message::Ground { tenths } => at_most(1, 65535, tenths),
         Message::Course { halves } => at_most(1, 719, halves),
@@ -116,13 +106,13 @@ pub fn range_of(m: Message) -> Verdict
         Message::Heading {
             halves,
             reference,
-            locked: _,
+            ..
         } => first_of(at_most(1, 719, halves), at_most(2, 719, reference)),
         Message::Variation { east } => in_bounds(1, -127, 128, east),
         Message::Turn {
             degrees,
-            right: _,
             rudder,
+            ..
         } => first_of(at_most(1, 359, degrees), in_bounds(3, -128, 127, rudder)),
     }
 }

@@ -1,3 +1,4 @@
+-- `put_name_in` puts the name of the row that was found, and nothing where none was.
 use borrow.Author.Needs.{needs}
 use Rattle.listing.proofs.Put.{put-nothing}
 use Rattle.listing.proofs.put_name_in.Statement.{statement}
