@@ -2,6 +2,9 @@
 use borrow.Author.Needs.{needs}
 use borrow.Author.Tests.{le-ltb, lt-ltb}
 use mathlib.Core.Path.{_∙_}
+use native.Mathlib.Omega.{arith}
+use lib.ListN.{getD}
+use Rattle.datagram.specs.Whole.{declared}
 use Rattle.listener.proofs.Sound.{sound-is}
 use Rattle.listener.proofs.is_sound.Statement.{statement}
 use Rattle.listener.proofs.is_sound.Tie as tie
@@ -13,7 +16,9 @@ add-if1 : tie.Need-add-if1
 add-if1 c = search needs
 
 returns : tie.Need-returns
-returns c = rw (sound-is (c .before .before .args .t1), le-ltb _ _ (c .if1 .taken))
+returns c =
+    let l = c .before .before .args .t1 in
+    rw (sound-is l, le-ltb (l .held) (declared (getD (l .bytes) 1 0)) (omega arith))
 
 cast-zeros-from : tie.Need-cast-zeros-from
 cast-zeros-from c = search needs
@@ -23,8 +28,8 @@ zeros-from-requires c κs = search needs
 
 returns-2 : tie.Need-returns-2
 returns-2 c =
-    c .zeros-from .ensures
-    ∙ rw (sound-is (c .before .before .before .before .before .before .args .t1), lt-ltb _ _ (c .before .before .before .before .if1 .left))
+    let l = c .before .before .before .before .before .before .args .t1 in
+    c .zeros-from .ensures ∙ rw (sound-is l, lt-ltb (l .held) (declared (getD (l .bytes) 1 0)) (omega arith))
 
 pub is-sound-spec : {M : Type 1} → statement M
 is-sound-spec =
