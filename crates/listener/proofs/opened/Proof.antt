@@ -1,7 +1,7 @@
 -- `opened` stores the byte into a silent state, and answers by whether anything was held.
 use borrow.Author.Needs.{needs}
 use Prim.Native.Nat.{ℕ, _<_}
-use mathlib.Core.Path.{_≡_, refl, _∙_}
+use mathlib.Core.Path.{_≡_, refl, sym, ap, _∙_}
 use mathlib.Core.List.{List, [], _∷_}
 use native.Mathlib.Omega.{arith}
 use lib.ListN.{length, set, length-take}
@@ -44,7 +44,8 @@ returns-2 c =
     let long : length (l .bytes) ≡ 17 = search needs in
     let some : 0 < length (heldBytes l) = rw length-take (omega arith) in
     c .without-bytes2 .ensures
-    ∙ rw (cancels (heldBytes l) (w .before .args .byte) some, alone (w .silent .result) (w .before .args .byte) (w .silent .ensures))
+    ∙ ap (λ (s : Listener). quiet Cancelled s) (alone (w .silent .result) (w .before .args .byte) (w .silent .ensures))
+    ∙ sym (cancels (heldBytes l) (w .before .args .byte) some)
 
 pub opened-spec : {M : Type 1} → statement M
 opened-spec =
