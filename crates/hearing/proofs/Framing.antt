@@ -14,18 +14,14 @@ use Rattle.listener.specs.declared.Listener.{Listener}
 use Rattle.listener.specs.declared.Answer.{Answer}
 use Rattle.listener.specs.declared.Answer.the-variants.{Opened, Cancelled, Stray, Kept}
 use Rattle.listener.specs.State.{holding}
-use Rattle.listener.specs.Step.{hearOf, step, commandSymbol, otherSymbol, refusedBy, quiet}
+use Rattle.listener.specs.Step.{hearOf, refusedBy, quiet}
 use Rattle.datagram.proofs.Whole.{declares}
-use Rattle.listener.proofs.Sound.{sound-holding, held-holding}
+use Rattle.listener.proofs.Held.{Unfinished, on-command, on-other}
 use Rattle.message.specs.declared.Message.{Message}
 use Rattle.message.specs.Spelling.{bytesOf, symbolsOf}
 use Rattle.roundtrip.specs.Laws.{allBytes}
 use Rattle.hearing.specs.Form.{Call, call, nothing, quietly, sounding, symbolsIn, Below, none, one-more, Attempt, alone, cut-short, Attempts, no-attempt, attempt-then, Mixed, mixed-end, as-it-is, above}
 use Rattle.hearing.specs.Demand.{run, passes, shows, allShow}
-
--- fewer bytes than the second declares
-abbrev pub Unfinished : List ℕ → Type 0
-Unfinished xs = length xs < declared (getD xs 1 0)
 
 -- with these bytes held, each call shows what is due
 abbrev pub ShownFrom : List ℕ → List Call → Type 0
@@ -34,21 +30,6 @@ ShownFrom xs calls = allShow calls (run hearOf (holding xs) (symbolsIn calls))
 -- the same, whatever unfinished bytes are held
 abbrev pub ShownAnyway : List Call → Type 0
 ShownAnyway calls = (xs : List ℕ) → Unfinished xs → ShownFrom xs calls
-
--- a state that holds unfinished bytes is sound, so the step is taken
-steps : (xs : List ℕ) (s : ℕ) → Unfinished xs → s ≤ 511 → hearOf (holding xs) s ≡ step xs s
-unfolding hearOf
-steps xs s u h = rw (le-ltb 511 s h, sound-holding xs (omega arith) u, held-holding xs (omega arith))
-
-on-command : (xs : List ℕ) (c : ℕ) → Unfinished xs → c < 256 → hearOf (holding xs) (256 + c) ≡ commandSymbol xs c
-unfolding step
-on-command xs c u h =
-    let back : 256 + c - 256 ≡ c = omega arith in
-    steps xs (256 + c) u (omega arith) ∙ rw (le-leb 256 (256 + c) (omega arith), back)
-
-on-other : (xs : List ℕ) (s : ℕ) → Unfinished xs → s < 256 → hearOf (holding xs) s ≡ otherSymbol xs s
-unfolding step
-on-other xs s u h = steps xs s u (omega arith) ∙ rw (lt-leb 256 s h)
 
 refuses : (l : Listener) (s : ℕ) → 511 < s → hearOf l s ≡ refusedBy symbolAbove l
 unfolding hearOf

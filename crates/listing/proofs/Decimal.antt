@@ -8,7 +8,7 @@ use borrow.Author.Tests.{lt-ltb, le-ltb}
 use lib.Dec.{ltb}
 use lib.ListN.{length, set}
 use lib.Seq.{sets, length-sets}
-use Rattle.listing.specs.Text.{decimalBy, decimal}
+use Rattle.listing.specs.Text.{decimalBy, decimal, pairOf}
 use Rattle.listing.proofs.Put.{set-sets}
 
 -- the digits stand before what follows, and there are at most as many as the fuel
@@ -84,6 +84,19 @@ two-by fuel m later h =
     let b : m % 10 ≡ m % 100 % 10 = omega arith in
     let q : m / 10 / 10 ≡ m / 100 = omega arith in
     rw (le-ltb m 10 (omega arith), le-ltb (m / 10) 10 (omega arith)) (cc)
+
+-- numbers of one, two and three digits
+pub decimal-one : (n : ℕ) → n < 10 → decimal n ≡ (48 + n) ∷ []
+unfolding decimal
+decimal-one n h = rw (lt-ltb n 10 h)
+
+pub decimal-two : (n : ℕ) → 10 ≤ n → n < 100 → decimal n ≡ pairOf n
+unfolding decimal
+decimal-two n g h = rw (le-ltb n 10 g, lt-ltb (n / 10) 10 (omega arith))
+
+pub decimal-three : (n : ℕ) → 100 ≤ n → n < 1000 → decimal n ≡ (48 + n / 100) ∷ pairOf (n % 100)
+unfolding decimal
+decimal-three n g h = two-by 18 n [] g ∙ rw (lt-ltb (n / 100) 10 (omega arith))
 
 -- two stores before others
 pair-sets : (l : List ℕ) (i j x y : ℕ) (xs : List ℕ) → j ≡ suc (suc i) → sets (sets l j xs) i (x ∷ y ∷ []) ≡ sets l i (x ∷ y ∷ xs)

@@ -1,5 +1,5 @@
--- What a listener hands out is a whole datagram of at most 18 bytes, and its line fits in the room for one.
-use mathlib.Core.Path.{_≡_, refl}
+-- What a listener hands out is a whole datagram of at most 18 bytes, and leaves nothing held.
+use mathlib.Core.Path.{_≡_, refl, sym, _∙_}
 use mathlib.Core.Bool.{Bool, true, false, cond, false≢true}
 use mathlib.Core.List.{List, [], _∷_, _++_}
 use Prim.Native.Nat.{ℕ, _-_, _≤_}
@@ -10,44 +10,51 @@ use lib.ListN.{length, getD, take}
 use Rattle.datagram.specs.Whole.{declared, whole}
 use Rattle.datagram.proofs.Padding.{take-pad}
 use Rattle.listener.specs.declared.Listener.{Listener}
+use Rattle.listener.specs.declared.Answer.{Answer}
+use Rattle.listener.specs.declared.Answer.the-variants.{Opened, Cancelled, Stray, Kept, Refused}
 use Rattle.listener.specs.declared.Heard.{Heard}
-use Rattle.listener.specs.State.{sound, heldBytes}
-use Rattle.listener.specs.Step.{hearOf, step, commandSymbol, otherSymbol, reaching, refusedBy}
+use Rattle.listener.specs.State.{sound, heldBytes, holding}
+use Rattle.listener.specs.Step.{hearOf, step, quiet, commandSymbol, otherSymbol, reaching, refusedBy}
 use Rattle.datagram.specs.Refusals.{symbolAbove, notSound}
 use Rattle.listing.specs.Walk.{isHanded}
 
--- what is handed out, if anything is, is at most 18 bytes and whole
-abbrev HandsWhole : Heard → Type 0
-HandsWhole h = isHanded (h .answer) ≡ true → (h .count ≤ 18) × (whole (take (h .count) (h .bytes)) ≡ true)
+-- what is handed out is at most 18 bytes and whole, and leaves nothing held; else nothing is
+abbrev Hands : Heard → Type 0
+Hands h =
+    (isHanded (h .answer) ≡ true → (h .count ≤ 18) × (whole (take (h .count) (h .bytes)) ≡ true) × (h .listener ≡ holding []))
+    × (isHanded (h .answer) ≡ false → h .count ≡ 0)
 
-declared-whole : (xs : List ℕ) → length xs ≡ declared (getD xs 1 0) → whole xs ≡ true
+pub declared-whole : (xs : List ℕ) → length xs ≡ declared (getD xs 1 0) → whole xs ≡ true
 unfolding whole
 declared-whole xs e =
     rw (le-leb 3 (length xs) (omega arith), le-leb (length xs) 18 (omega arith), eq-eqb (length xs) (declared (getD xs 1 0)) e)
 
-reached : (xs : List ℕ) (t : Bool) → eqb (length xs) (declared (getD xs 1 0)) ≡ t → HandsWhole (reaching xs)
+silent : (answer : Answer) (l : Listener) → isHanded answer ≡ false → Hands (quiet answer l)
+silent answer l e = (λ h. absurd (false≢true (sym e ∙ h)), λ f. refl)
+
+reached : (xs : List ℕ) (t : Bool) → eqb (length xs) (declared (getD xs 1 0)) ≡ t → Hands (reaching xs)
 reached xs true e =
     let full : length xs ≡ declared (getD xs 1 0) = eqb-true (length xs) (declared (getD xs 1 0)) e in
-    rw e (λ h. (omega arith, rw (take-pad 18 xs) (declared-whole xs full)))
-reached xs false e = rw e (λ h. absurd (false≢true h))
+    rw e (λ h. (omega arith, rw (take-pad 18 xs) (declared-whole xs full), refl), λ f. absurd (false≢true (sym f)))
+reached xs false e = rw e (silent Kept (holding xs) refl)
 
-other : (xs : List ℕ) (b : ℕ) → HandsWhole (otherSymbol xs b)
-other [] b h = absurd (false≢true h)
-other (x ∷ xs) b h =
-    let all = (x ∷ xs) ++ (b ∷ []) in reached all (eqb (length all) (declared (getD all 1 0))) refl h
+other : (xs : List ℕ) (b : ℕ) → Hands (otherSymbol xs b)
+other [] b = silent Stray (holding []) refl
+other (x ∷ xs) b =
+    let all = (x ∷ xs) ++ (b ∷ []) in reached all (eqb (length all) (declared (getD all 1 0))) refl
 
-command : (xs : List ℕ) (b : ℕ) → HandsWhole (commandSymbol xs b)
-command [] b h = absurd (false≢true h)
-command (x ∷ xs) b h = absurd (false≢true h)
+command : (xs : List ℕ) (b : ℕ) → Hands (commandSymbol xs b)
+command [] b = silent Opened (holding (b ∷ [])) refl
+command (x ∷ xs) b = silent Cancelled (holding (b ∷ [])) refl
 
-either : (t : Bool) (g h : Heard) → HandsWhole g → HandsWhole h → HandsWhole (cond t g h)
+either : (t : Bool) (g h : Heard) → Hands g → Hands h → Hands (cond t g h)
 either true g h a b = a
 either false g h a b = b
 
-pub hands-whole : (l : Listener) (s : ℕ) → HandsWhole (hearOf l s)
+pub hands : (l : Listener) (s : ℕ) → Hands (hearOf l s)
 unfolding hearOf step
-hands-whole l s =
-    either (ltb 511 s) (refusedBy symbolAbove l) (cond (sound l) (step (heldBytes l) s) (refusedBy notSound l)) (λ h. absurd (false≢true h))
+hands l s =
+    either (ltb 511 s) (refusedBy symbolAbove l) (cond (sound l) (step (heldBytes l) s) (refusedBy notSound l)) (silent (Refused symbolAbove) l refl)
     (either (sound l) (step (heldBytes l) s) (refusedBy notSound l)
     (either (leb 256 s) (commandSymbol (heldBytes l) (s - 256)) (otherSymbol (heldBytes l) s) (command (heldBytes l) (s - 256))
-    (other (heldBytes l) s)) (λ h. absurd (false≢true h)))
+    (other (heldBytes l) s)) (silent (Refused notSound) l refl))

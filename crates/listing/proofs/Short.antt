@@ -4,8 +4,7 @@ use Prim.Native.Nat.{ℕ, _≤_}
 use native.Mathlib.Omega.{arith}
 use lib.ListN.{length, length-append}
 use lib.Seq.{take-all}
-use Rattle.message.specs.Reading.{byte, readOf}
-use Rattle.message.specs.Table.{findOf}
+use Rattle.message.specs.Reading.{readOf}
 use Rattle.listing.specs.Text.{decimal, spacedHex}
 use Rattle.listing.specs.Line.{contentOf, lineOf}
 use Rattle.listing.proofs.Decimal.{decimal-most}
@@ -14,7 +13,7 @@ use Rattle.listing.proofs.Lines.{content-most}
 
 pub line-short : (time : ℕ) (part : List ℕ) → length part ≤ 18 → length (lineOf time part) ≤ 512
 line-short time part h =
-    let content = contentOf (findOf (byte part 0)) (readOf part) in
+    let content = contentOf (readOf part) in
     let hex : length (spacedHex part) ≤ 54 = rw (take-all 18 part h) at (hex-most 18 part) in
     omega (
       arith,
@@ -22,5 +21,5 @@ line-short time part h =
       length-append (spacedHex part) (content ++ (10 ∷ [])),
       length-append content (10 ∷ []),
       decimal-most time,
-      content-most (findOf (byte part 0)) (readOf part),
+      content-most (readOf part),
     )

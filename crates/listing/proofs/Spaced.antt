@@ -8,8 +8,9 @@ use native.Mathlib.Omega.{arith}
 use lib.IntN.{ℤ, pos, negsuc}
 use lib.ListN.{length, take, getD, length-append, length-take}
 use lib.Seq.{take-suc}
-use Rattle.listing.specs.Text.{signedDecimal, hexByte, spacedHex, spacedNumbers}
+use Rattle.listing.specs.Text.{Put, signedDecimal, hexByte, spacedHex, spacedNumbers}
 use Rattle.listing.proofs.Decimal.{decimal-most}
+use Rattle.listing.proofs.Put.{put-then}
 
 pub take-most : {A : Type 0} (i : ℕ) (xs : List A) → length (take i xs) ≤ i
 take-most i xs = rw length-take (min-le-left i (length xs))
@@ -21,7 +22,7 @@ hex-append (x ∷ xs) ys = rw (hex-append xs ys)
 pub hex-next : (i : ℕ) (xs : List ℕ) → i < length xs → spacedHex (take (i + 1) xs) ≡ spacedHex (take i xs) ++ (32 ∷ hexByte (getD xs i 0))
 hex-next i xs h = rw (add-one, take-suc xs i 0) (hex-append (take i xs) (getD xs i 0 ∷ []))
 
-hex-length : (xs : List ℕ) → length (spacedHex xs) ≡ 3 * length xs
+pub hex-length : (xs : List ℕ) → length (spacedHex xs) ≡ 3 * length xs
 hex-length [] = refl
 hex-length (x ∷ xs) = omega (arith, hex-length xs)
 
@@ -36,6 +37,11 @@ pub numbers-next : (i : ℕ) (zs : List ℤ) → i < length zs
     → spacedNumbers (take (i + 1) zs) ≡ spacedNumbers (take i zs) ++ (32 ∷ signedDecimal (getD zs i (pos 0)))
 numbers-next i zs h =
     rw (add-one, take-suc zs i (pos 0), numbers-append) (simp append-nil)
+
+-- one list of numbers after another
+pub numbers-then : (xs ys : List ℤ) {a b c : List ℕ} {at m n : ℕ} → Put a at (spacedNumbers xs) b m → Put b m (spacedNumbers ys) c n
+    → Put a at (spacedNumbers (xs ++ ys)) c n
+numbers-then xs ys p q = rw (numbers-append xs ys) (put-then p q)
 
 pub signed-most : (z : ℤ) → length (signedDecimal z) ≤ 21
 signed-most (pos n) = omega (arith, decimal-most n)

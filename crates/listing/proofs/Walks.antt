@@ -5,11 +5,10 @@ use mathlib.Core.List.{List, [], _++_, append-assoc, append-nil}
 use Prim.Native.Nat.{ℕ, suc, _+_, _-_, _*_, _/_, _≤_, _<_}
 use native.Mathlib.Nat.{sub-zero, zero-add}
 use native.Mathlib.Omega.{arith}
-use borrow.Author.Tests.{le-leb, lt-leb}
+use borrow.Author.Tests.{le-leb, lt-leb, eqb-false}
+use lib.Dec.{eqb}
 use lib.ListN.{length, take}
 use Rattle.datagram.specs.declared.Refusal.{Refusal}
-use Rattle.datagram.proofs.Whole.{declares}
-use Rattle.listener.specs.declared.Listener.{Listener}
 use Rattle.listener.specs.Step.{hearOf}
 use Rattle.recording.specs.declared.Record.the-variants as record-case
 use Rattle.recording.specs.Record.{recordOf}
@@ -19,21 +18,21 @@ use Rattle.listing.specs.declared.Stop.{Stop}
 use Rattle.listing.specs.declared.Stop.the-variants.{Running, Stopped}
 use Rattle.listing.specs.Text.{Put}
 use Rattle.listing.specs.Line.{lineOf}
-use Rattle.listing.specs.Walk.{walk, behind, walkFrom, advanced, entryOf, isHanded, Block}
+use Rattle.listing.specs.Walk.{walk, behind, walkFrom, advanced, entryOf, Block}
+use Rattle.listing.specs.declared.block.Taken.{Taken}
+use Rattle.listing.specs.Taken.{Took, takenText}
 use Rattle.listing.proofs.Put.{put-then, put-nothing}
-use Rattle.listing.proofs.Handed.{hands-whole}
+use Rattle.listing.proofs.Spaced.{take-most}
 use Rattle.listing.proofs.Short.{line-short}
 
 -- a line fits in the room for one
-entry-short : (time : ℕ) (l : Listener) (symbol : ℕ) → length (entryOf time (hearOf l symbol)) ≤ 512
-entry-short time l symbol = go (isHanded (hearOf l symbol .answer)) refl
+taken-short : {s : List ℕ} {at left : ℕ} {p : Progress} (t : Taken) → Took s at left p t → length (takenText t) ≤ 512
+taken-short t k = go (eqb (t .count) 0) refl
   where
-    part : List ℕ
-    part = take (hearOf l symbol .count) (hearOf l symbol .bytes)
-
-    go : (t : Bool) → isHanded (hearOf l symbol .answer) ≡ t → length (cond t (lineOf time part) []) ≤ 512
-    go true e = line-short time part (omega (arith, declares part (hands-whole l symbol e .1)))
-    go false e = omega arith
+    go : (b : Bool) → eqb (t .count) 0 ≡ b → length (cond b [] (lineOf (t .time) (take (t .count) (t .bytes)))) ≤ 512
+    go true e = omega arith
+    go false e =
+        line-short (t .time) (take (t .count) (t .bytes)) (omega (arith, take-most (t .count) (t .bytes), k .complete (omega (arith, eqb-false (t .count) 0 e)) .0))
 
 module _ (s : List ℕ) (at : ℕ) (p : Progress) (n room : ℕ) (some : 0 < n) where
   more : n ≡ suc (n - 1)
@@ -51,7 +50,7 @@ module _ (s : List ℕ) (at : ℕ) (p : Progress) (n room : ℕ) (some : 0 < n) 
   unfolding walkFrom
   walk-refused r h e = rw (more, le-leb 512 room h, e)
 
-  walk-heard : (time symbol : ℕ) → 512 ≤ room → recordOf s at ≡ record-case.Heard time symbol
+  pub walk-heard : (time symbol : ℕ) → 512 ≤ room → recordOf s at ≡ record-case.Heard time symbol
       → walkFrom n s at p room
       ≡ behind (entryOf time (hearOf (p .listener) symbol))
       (walkFrom (n - 1) s (at + 8) (advanced p (hearOf (p .listener) symbol)) (room - length (entryOf time (hearOf (p .listener) symbol))))
@@ -82,19 +81,18 @@ module _ {s before out : List ℕ} {begin p : Progress} {n left at place : ℕ} 
         stored = g .put .stored;
       })
 
-  pub went : (time symbol : ℕ) (later : List ℕ) (place′ : ℕ) → 0 < left → 512 ≤ length before - place → recordOf s at ≡ record-case.Heard time symbol
-      → Put out place (entryOf time (hearOf (p .listener) symbol)) later place′
-      → Going s before begin n later (advanced p (hearOf (p .listener) symbol)) (left - 1) (at + 8) place′
-  went time symbol later place′ some roomy e put =
-      let entry = entryOf time (hearOf (p .listener) symbol) in
-      let next = advanced p (hearOf (p .listener) symbol) in
-      let room : length before - place - length entry ≡ length before - place′ = omega (arith, put .moved) in
-      let w : walkFrom left s at p (length before - place) ≡ behind entry (walkFrom (left - 1) s (at + 8) next (length before - place′)) =
-      walk-heard s at p left (length before - place) some time symbol roomy e ∙ rw room in
+  pub took : (t : Taken) (later : List ℕ) (place′ : ℕ) → Took s at left p t → 0 < t .used → 512 ≤ length before - place
+      → Put out place (takenText t) later place′
+      → Going s before begin n later (t .progress) (left - t .used) (at + 8 * t .used) place′
+  took t later place′ k some roomy put =
+      let text = takenText t in
+      let room : length before - place - length text ≡ length before - place′ = omega (arith, put .moved) in
+      let w : walkFrom left s at p (length before - place) ≡ behind text (walkFrom (left - t .used) s (at + 8 * t .used) (t .progress) (length before - place′)) =
+      k .goes some (length before - place) roomy ∙ rw room in
       record {
-        text = g .text ++ entry;
+        text = g .text ++ text;
         put = put-then (g .put) put;
         rest = g .rest ∙ ap (behind (g .text)) w ∙ rw append-assoc;
-        within = omega (arith, g .within);
-        fits = omega (arith, put .moved, entry-short time (p .listener) symbol, g .fits);
+        within = omega (arith, g .within, k .fits);
+        fits = omega (arith, put .moved, taken-short t k, g .fits);
       }

@@ -3,11 +3,9 @@ use Prim.Native.Nat.{ℕ}
 use mathlib.Core.List.{List, [], _∷_, _++_}
 use Rattle.message.specs.declared.Reading.{Reading}
 use Rattle.message.specs.declared.Reading.the-variants.{Read, Refused}
-use Rattle.message.specs.Fields.{fieldsOf}
-use Rattle.message.specs.declared.Lookup.{Lookup}
-use Rattle.message.specs.declared.Lookup.the-variants.{Found, Unknown}
-use Rattle.message.specs.Reading.{byte, readOf}
-use Rattle.message.specs.Table.{findOf}
+use Rattle.message.specs.declared.Message.{Message}
+use Rattle.message.specs.Fields.{kindOf, fieldsOf}
+use Rattle.message.specs.Reading.{readOf}
 use Rattle.listing.specs.Text.{decimal, spacedHex, spacedNumbers}
 use Rattle.listing.specs.Words.{nameOf, refusedWord, stoppedWord, atWord, handedWord, cancelledWord, strayWord, busWord, listingWord}
 
@@ -15,19 +13,18 @@ use Rattle.listing.specs.Words.{nameOf, refusedWord, stoppedWord, atWord
 abbrev pub spaced : List ℕ → List ℕ
 spaced text = 32 ∷ text
 
--- the name of the kind in the command's row of the table (a datagram that was read has one)
-abbrev pub nameIn : Lookup → List ℕ
-nameIn (Found row) = spaced (nameOf (row .kind))
-nameIn Unknown = []
+-- the kind's name, and the fields in table order
+abbrev pub messageText : Message → List ℕ
+messageText m = spaced (nameOf (kindOf m)) ++ spacedNumbers (fieldsOf m)
 
--- the kind's name and the fields in table order, or what refused the datagram
-abbrev pub contentOf : Lookup → Reading → List ℕ
-contentOf found (Read m) = nameIn found ++ spacedNumbers (fieldsOf m)
-contentOf found (Refused r) = spaced refusedWord ++ spaced (decimal (r .number))
+-- what a datagram was read as, or what refused it
+abbrev pub contentOf : Reading → List ℕ
+contentOf (Read m) = messageText m
+contentOf (Refused r) = spaced refusedWord ++ spaced (decimal (r .number))
 
 -- the decimal time, the bytes in hex, the content, and the line's end
 abbrev pub lineOf : ℕ → List ℕ → List ℕ
-lineOf time bytes = decimal time ++ (spacedHex bytes ++ (contentOf (findOf (byte bytes 0)) (readOf bytes) ++ (10 ∷ [])))
+lineOf time bytes = decimal time ++ (spacedHex bytes ++ (contentOf (readOf bytes) ++ (10 ∷ [])))
 
 -- bus listing 1
 abbrev pub headerLine : List ℕ

@@ -29,6 +29,19 @@ hexDigit d = cond (ltb d 10) (48 + d) (55 + d)
 abbrev pub hexByte : ℕ → List ℕ
 hexByte b = hexDigit (b / 16) ∷ hexDigit (b % 16) ∷ []
 
+-- the two decimal digits of a number below 100
+abbrev pub pairOf : ℕ → List ℕ
+pairOf n = (48 + n / 10) ∷ (48 + n % 10) ∷ []
+
+-- the digits of so many numbers, from one on
+abbrev pub digitsFrom : (ℕ → List ℕ) → ℕ → ℕ → List ℕ
+digitsFrom digits first zero = []
+digitsFrom digits first (suc n) = digits first ++ digitsFrom digits (suc first) n
+
+-- the two hex digits of each byte, and then the two decimal digits of each number below 100
+unfoldable pub digitPairs : List ℕ
+digitPairs = digitsFrom hexByte 0 256 ++ digitsFrom pairOf 0 100
+
 -- each byte in hex after a space
 abbrev pub spacedHex : List ℕ → List ℕ
 spacedHex [] = []

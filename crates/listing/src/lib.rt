@@ -3,20 +3,20 @@ pub mod block;
 
 use datagram::Refusal;
 use listener::Listener;
-use message::Kind;
-use message::Lookup;
+use message::Message;
 use message::Reading;
 ghost use mathlib.Core.Path.{_≡_};
 ghost use mathlib.Core.Bool.{true};
 ghost use mathlib.Core.List.{[], _∷_, _++_};
-ghost use Prim.Native.Nat.{_+_, _/_, _%_, _≤_, _<_};
-ghost use lib.ListN.{length, take};
+ghost use Prim.Native.Nat.{_+_, _≤_, _<_};
+ghost use lib.ListN.{length};
 ghost use lib.Seq.{sets};
-ghost use Rattle.listing.specs.Text.{Put, Placed, placed, decimal, signedDecimal, hexDigit, hexByte, spacedHex, spacedNumbers};
+ghost use lib.IntN.{pos};
+ghost use Rattle.number.specs.Word.{num};
+ghost use Rattle.listing.specs.Text.{Put, Placed, placed, digitPairs, pairOf, decimal, hexByte, spacedHex, spacedNumbers};
 ghost use Rattle.datagram.specs.Whole.{whole};
 ghost use Rattle.listing.specs.Walk.{stopText, endText};
-ghost use Rattle.listing.specs.Words.{nameOf};
-ghost use Rattle.listing.specs.Line.{nameIn, contentOf, lineOf, countLine, spaced, headerLine};
+ghost use Rattle.listing.specs.Line.{messageText, contentOf, lineOf, countLine, headerLine};
 
 // What is carried from block to block: the listener, and how many answers of each counted sort it gave.
 pub struct Progress {
@@ -53,38 +53,58 @@ fn put_bytes(out: &mut [u8], at: usize, text: &[u8]) -> usize
     at + i
 }
 
+// The two hex digits of each byte, and behind them the two decimal digits of each number below 100. It is laid out once
+// for a block: a constant would be laid out again at every use.
+fn digit_pairs() -> [u8; 712]
+    ensures { λ r. ⌜ r ≡ digitPairs ⌝ }
+{
+    *b"000102030405060708090A0B0C0D0E0F101112131415161718191A1B1C1D1E1F\
+        202122232425262728292A2B2C2D2E2F303132333435363738393A3B3C3D3E3F\
+        404142434445464748494A4B4C4D4E4F505152535455565758595A5B5C5D5E5F\
+        606162636465666768696A6B6C6D6E6F707172737475767778797A7B7C7D7E7F\
+        808182838485868788898A8B8C8D8E8F909192939495969798999A9B9C9D9E9F\
+        A0A1A2A3A4A5A6A7A8A9AAABACADAEAFB0B1B2B3B4B5B6B7B8B9BABBBCBDBEBF\
+        C0C1C2C3C4C5C6C7C8C9CACBCCCDCECFD0D1D2D3D4D5D6D7D8D9DADBDCDDDEDF\
+        E0E1E2E3E4E5E6E7E8E9EAEBECEDEEEFF0F1F2F3F4F5F6F7F8F9FAFBFCFDFEFF\
+        0001020304050607080910111213141516171819\
+        2021222324252627282930313233343536373839\
+        4041424344454647484950515253545556575859\
+        6061626364656667686970717273747576777879\
+        8081828384858687888990919293949596979899"
+}
+
 // How many digits a number has.
 fn places(n: u64) -> usize
     ensures { λ r. ⌜ r ≡ length (decimal n) ⌝ }
 {
-    if n < 10 {
-        return 1;
-    }
-    if n < 100 {
-        return 2;
-    }
-    if n < 1000 {
-        return 3;
-    }
-    if n < 10000 {
-        return 4;
-    }
-    if n < 100000 {
-        return 5;
-    }
-    if n < 1000000 {
-        return 6;
-    }
-    if n < 10000000 {
-        return 7;
-    }
-    if n < 100000000 {
-        return 8;
-    }
-    if n < 1000000000 {
-        return 9;
-    }
     if n < 10000000000 {
+        if n < 100000 {
+            if n < 10 {
+                return 1;
+            }
+            if n < 100 {
+                return 2;
+            }
+            if n < 1000 {
+                return 3;
+            }
+            if n < 10000 {
+                return 4;
+            }
+            return 5;
+        }
+        if n < 1000000 {
+            return 6;
+        }
+        if n < 10000000 {
+            return 7;
+        }
+        if n < 100000000 {
+            return 8;
+        }
+        if n < 1000000000 {
+            return 9;
+        }
         return 10;
     }
     if n < 100000000000 {
@@ -118,183 +138,379 @@ fn places(n: u64) -> usize
 }
 
 // Stores the two digits of a number below 100.
-fn store_pair(out: &mut [u8], at: usize, n: u64)
-    requires { ⌜ (n < 100) × (at + 2 ≤ length (now out)) ⌝ }
-    ensures { λ _. ⌜ now (out .exit) ≡ sets (now (out .entry)) at ((48 + n / 10) ∷ (48 + n % 10) ∷ []) ⌝ }
+fn store_pair(pairs: &[u8; 712], out: &mut [u8], at: usize, n: u64)
+    requires { ⌜ (now pairs ≡ digitPairs) × (n < 100) × (at + 2 ≤ length (now out)) ⌝ }
+    ensures { λ _. ⌜ now (out .exit) ≡ sets (now (out .entry)) at (pairOf n) ⌝ }
 {
-    out[at] = 48 + (n / 10) as u8;
-    out[at + 1] = 48 + (n % 10) as u8;
+    let i = 512 + 2 * n as usize;
+    // Both are read before either is stored, so that it is one read and one store.
+    let tens = pairs[i];
+    let ones = pairs[i + 1];
+    out[at] = tens;
+    out[at + 1] = ones;
 }
 
 // Stores the digits of a number from the right, two at a time: the last before `end`.
-fn store_digits(out: &mut [u8], at: usize, end: usize, n: u64)
-    requires { ⌜ (end ≡ at + length (decimal n)) × (end ≤ length (now out)) ⌝ }
+fn store_digits(pairs: &[u8; 712], out: &mut [u8], at: usize, end: usize, n: u64)
+    requires { ⌜ (now pairs ≡ digitPairs) × (end ≡ at + length (decimal n)) × (end ≤ length (now out)) ⌝ }
     ensures { λ _. ⌜ now (out .exit) ≡ sets (now (out .entry)) at (decimal n) ⌝ }
 {
     let mut e = end;
     let mut m = n;
     while 100 <= m {
         e -= 2;
-        store_pair(out, e, m % 100);
+        store_pair(pairs, out, e, m % 100);
         m = m / 100;
     }
     if m < 10 {
         out[at] = 48 + m as u8;
     } else {
-        store_pair(out, at, m);
+        store_pair(pairs, out, at, m);
     }
 }
 
-// Puts a number in decimal.
-fn put_decimal(out: &mut [u8], at: usize, n: u64) -> usize
-    requires { ⌜ at + 20 ≤ length (now out) ⌝ }
+// Puts a number in decimal; those of one to three digits, which are most, without a loop.
+fn put_decimal(pairs: &[u8; 712], out: &mut [u8], at: usize, n: u64) -> usize
+    requires { ⌜ (now pairs ≡ digitPairs) × (at + 20 ≤ length (now out)) ⌝ }
     ensures { λ r. ⌜ Put (now (out .entry)) at (decimal n) (now (out .exit)) r ⌝ }
 {
+    if n < 10 {
+        out[at] = 48 + n as u8;
+        return at + 1;
+    }
+    if n < 100 {
+        store_pair(pairs, out, at, n);
+        return at + 2;
+    }
+    if n < 1000 {
+        out[at] = 48 + (n / 100) as u8;
+        store_pair(pairs, out, at + 1, n % 100);
+        return at + 3;
+    }
     let end = at + places(n);
-    store_digits(out, at, end, n);
+    store_digits(pairs, out, at, end, n);
     end
 }
 
-// Puts a number of either sign in decimal.
-fn put_signed(out: &mut [u8], at: usize, z: i64) -> usize
-    requires { ⌜ at + 21 ≤ length (now out) ⌝ }
-    ensures { λ r. ⌜ Put (now (out .entry)) at (signedDecimal z) (now (out .exit)) r ⌝ }
+// Puts a field after a space.
+fn put_number(pairs: &[u8; 712], out: &mut [u8], at: usize, n: u32) -> usize
+    requires { ⌜ (now pairs ≡ digitPairs) × (at + 22 ≤ length (now out)) ⌝ }
+    ensures { λ r. ⌜ Put (now (out .entry)) at (spacedNumbers (pos n ∷ [])) (now (out .exit)) r ⌝ }
 {
+    out[at] = 32;
+    put_decimal(pairs, out, at + 1, n as u64)
+}
+
+// Puts a field of either sign after a space.
+fn put_signed(pairs: &[u8; 712], out: &mut [u8], at: usize, z: i32) -> usize
+    requires { ⌜ (now pairs ≡ digitPairs) × (at + 22 ≤ length (now out)) ⌝ }
+    ensures { λ r. ⌜ Put (now (out .entry)) at (spacedNumbers (z ∷ [])) (now (out .exit)) r ⌝ }
+{
+    out[at] = 32;
     if z < 0 {
-        out[at] = 45;
-        put_decimal(out, at + 1, (-1 - z) as u64 + 1)
+        out[at + 1] = 45;
+        put_decimal(pairs, out, at + 2, (-1 - z) as u64 + 1)
     } else {
-        put_decimal(out, at, z as u64)
+        put_decimal(pairs, out, at + 1, z as u64)
     }
 }
 
-// A digit below 16 in hex.
-fn hex_digit(d: u8) -> u8
-    requires { ⌜ d < 16 ⌝ }
-    ensures { λ r. ⌜ r ≡ hexDigit d ⌝ }
+// Puts a flag after a space.
+fn put_flag(out: &mut [u8], at: usize, on: bool) -> usize
+    requires { ⌜ at + 22 ≤ length (now out) ⌝ }
+    ensures { λ r. ⌜ Put (now (out .entry)) at (spacedNumbers (pos (num on) ∷ [])) (now (out .exit)) r ⌝ }
 {
-    if d < 10 { 48 + d } else { 55 + d }
+    out[at] = 32;
+    if on {
+        out[at + 1] = 49;
+        return at + 2;
+    }
+    out[at + 1] = 48;
+    at + 2
 }
 
 // Puts a byte in hex after a space.
-fn put_hex_byte(out: &mut [u8], at: usize, b: u8) -> usize
-    requires { ⌜ at + 3 ≤ length (now out) ⌝ }
+fn put_hex_byte(pairs: &[u8; 712], out: &mut [u8], at: usize, b: u8) -> usize
+    requires { ⌜ (now pairs ≡ digitPairs) × (at + 3 ≤ length (now out)) ⌝ }
     ensures { λ r. ⌜ Put (now (out .entry)) at (32 ∷ hexByte b) (now (out .exit)) r ⌝ }
 {
+    let i = 2 * b as usize;
+    let high = pairs[i];
+    let low = pairs[i + 1];
     out[at] = 32;
-    out[at + 1] = hex_digit(b / 16);
-    out[at + 2] = hex_digit(b % 16);
+    out[at + 1] = high;
+    out[at + 2] = low;
     at + 3
 }
 
-// Puts the first `count` bytes in hex, each after a space.
-fn put_hex(out: &mut [u8], at: usize, bytes: [u8; 18], count: u8) -> usize
-    requires { ⌜ (count ≤ 18) × (at + 54 ≤ length (now out)) ⌝ }
-    ensures { λ r. ⌜ Put (now (out .entry)) at (spacedHex (take count bytes)) (now (out .exit)) r ⌝ }
+// Puts bytes in hex, each after a space.
+fn put_hex(pairs: &[u8; 712], out: &mut [u8], at: usize, bytes: &[u8]) -> usize
+    requires { ⌜ (now pairs ≡ digitPairs) × (length (now bytes) ≤ 18) × (at + 54 ≤ length (now out)) ⌝ }
+    ensures { λ r. ⌜ Put (now (out .entry)) at (spacedHex (now (bytes .entry))) (now (out .exit)) r ⌝ }
 {
     let mut p = at;
     let mut i = 0;
-    while i < count {
-        p = put_hex_byte(out, p, bytes[i as usize]);
-        i += 1;
-    }
-    p
-}
-
-// Puts the first `count` numbers in decimal, each after a space.
-fn put_numbers(out: &mut [u8], at: usize, values: [i64; 12], count: u8) -> usize
-    requires { ⌜ (count ≤ 12) × (at + 264 ≤ length (now out)) ⌝ }
-    ensures { λ r. ⌜ Put (now (out .entry)) at (spacedNumbers (take count values)) (now (out .exit)) r ⌝ }
-{
-    let mut p = at;
-    let mut i = 0;
-    while i < count {
-        out[p] = 32;
-        p = put_signed(out, p + 1, values[i as usize]);
+    while i < bytes.len() {
+        p = put_hex_byte(pairs, out, p, bytes[i]);
         i += 1;
     }
     p
 }
 
 // Puts these bytes and then a number in decimal.
-fn put_labelled(out: &mut [u8], at: usize, label: &[u8], n: u64) -> usize
-    requires { ⌜ at + length (now label) + 20 ≤ length (now out) ⌝ }
+fn put_labelled(pairs: &[u8; 712], out: &mut [u8], at: usize, label: &[u8], n: u64) -> usize
+    requires { ⌜ (now pairs ≡ digitPairs) × (at + length (now label) + 20 ≤ length (now out)) ⌝ }
     ensures { λ r. ⌜ Put (now (out .entry)) at (now (label .entry) ++ decimal n) (now (out .exit)) r ⌝ }
 {
     let p = put_bytes(out, at, label);
-    put_decimal(out, p, n)
+    put_decimal(pairs, out, p, n)
 }
 
-// Puts a kind's name after a space.
-fn put_name(out: &mut [u8], at: usize, kind: Kind) -> usize
-    requires { ⌜ at + 16 ≤ length (now out) ⌝ }
-    ensures { λ r. ⌜ Put (now (out .entry)) at (spaced (nameOf kind)) (now (out .exit)) r ⌝ }
+// Puts two fields.
+fn put_two(pairs: &[u8; 712], out: &mut [u8], at: usize, a: u32, b: u32) -> usize
+    requires { ⌜ (now pairs ≡ digitPairs) × (at + 44 ≤ length (now out)) ⌝ }
+    ensures { λ r. ⌜ Put (now (out .entry)) at (spacedNumbers (pos a ∷ pos b ∷ [])) (now (out .exit)) r ⌝ }
 {
-    match kind {
-        Kind::Depth => put_bytes(out, at, b" depth"),
-        Kind::WindAngle => put_bytes(out, at, b" windangle"),
-        Kind::WindSpeed => put_bytes(out, at, b" windspeed"),
-        Kind::Speed => put_bytes(out, at, b" speed"),
-        Kind::Trip => put_bytes(out, at, b" trip"),
-        Kind::Total => put_bytes(out, at, b" total"),
-        Kind::Logs => put_bytes(out, at, b" logs"),
-        Kind::Speeds => put_bytes(out, at, b" speeds"),
-        Kind::Water => put_bytes(out, at, b" water"),
-        Kind::Lamp => put_bytes(out, at, b" lamp"),
-        Kind::Latitude => put_bytes(out, at, b" lat"),
-        Kind::Longitude => put_bytes(out, at, b" lon"),
-        Kind::Ground => put_bytes(out, at, b" ground"),
-        Kind::Course => put_bytes(out, at, b" course"),
-        Kind::Time => put_bytes(out, at, b" time"),
-        Kind::Date => put_bytes(out, at, b" date"),
-        Kind::Key => put_bytes(out, at, b" key"),
-        Kind::Heading => put_bytes(out, at, b" heading"),
-        Kind::Variation => put_bytes(out, at, b" variation"),
-        Kind::Turn => put_bytes(out, at, b" turn"),
-    }
+    let p = put_number(pairs, out, at, a);
+    put_number(pairs, out, p, b)
 }
 
-// Puts the name in the command's row, if it has one.
-fn put_name_in(out: &mut [u8], at: usize, found: Lookup) -> usize
-    requires { ⌜ at + 16 ≤ length (now out) ⌝ }
-    ensures { λ r. ⌜ Put (now (out .entry)) at (nameIn found) (now (out .exit)) r ⌝ }
+// Puts three fields.
+fn put_three(pairs: &[u8; 712], out: &mut [u8], at: usize, a: u32, b: u32, c: u32) -> usize
+    requires { ⌜ (now pairs ≡ digitPairs) × (at + 66 ≤ length (now out)) ⌝ }
+    ensures { λ r. ⌜ Put (now (out .entry)) at (spacedNumbers (pos a ∷ pos b ∷ pos c ∷ [])) (now (out .exit)) r ⌝ }
 {
-    match found {
-        Lookup::Found(row) => {
-            let kind = row.kind;
-            put_name(out, at, kind)
+    let p = put_two(pairs, out, at, a, b);
+    put_number(pairs, out, p, c)
+}
+
+// Puts a field and a flag.
+fn put_flagged(pairs: &[u8; 712], out: &mut [u8], at: usize, a: u32, on: bool) -> usize
+    requires { ⌜ (now pairs ≡ digitPairs) × (at + 44 ≤ length (now out)) ⌝ }
+    ensures { λ r. ⌜ Put (now (out .entry)) at (spacedNumbers (pos a ∷ pos (num on) ∷ [])) (now (out .exit)) r ⌝ }
+{
+    let p = put_number(pairs, out, at, a);
+    put_flag(out, p, on)
+}
+
+// Puts two fields and a flag.
+fn put_two_flagged(pairs: &[u8; 712], out: &mut [u8], at: usize, a: u32, b: u32, on: bool) -> usize
+    requires { ⌜ (now pairs ≡ digitPairs) × (at + 66 ≤ length (now out)) ⌝ }
+    ensures { λ r. ⌜ Put (now (out .entry)) at (spacedNumbers (pos a ∷ pos b ∷ pos (num on) ∷ [])) (now (out .exit)) r ⌝ }
+{
+    let p = put_two(pairs, out, at, a, b);
+    put_flag(out, p, on)
+}
+
+// Puts the fields of a depth.
+fn put_depth(
+    pairs: &[u8; 712],
+    out: &mut [u8],
+    at: usize,
+    tenths: u32,
+    anchor: bool,
+    metric: bool,
+    defective: bool,
+    deep: bool,
+    shallow: bool,
+) -> usize
+    requires { ⌜ (now pairs ≡ digitPairs) × (at + 132 ≤ length (now out)) ⌝ }
+    ensures { λ r. ⌜ Put (now (out .entry)) at (spacedNumbers (pos tenths ∷ pos (num anchor) ∷ pos (num metric) ∷ pos (num defective) ∷ pos (num deep) ∷ pos (num shallow) ∷ [])) (now (out .exit)) r ⌝ }
+{
+    let mut p = put_flagged(pairs, out, at, tenths, anchor);
+    p = put_flag(out, p, metric);
+    p = put_flag(out, p, defective);
+    p = put_flag(out, p, deep);
+    put_flag(out, p, shallow)
+}
+
+// Puts the fields of speeds.
+fn put_speeds(
+    pairs: &[u8; 712],
+    out: &mut [u8],
+    at: usize,
+    speed: u32,
+    average: u32,
+    valid: bool,
+    stopped: bool,
+    mph: bool,
+) -> usize
+    requires { ⌜ (now pairs ≡ digitPairs) × (at + 110 ≤ length (now out)) ⌝ }
+    ensures { λ r. ⌜ Put (now (out .entry)) at (spacedNumbers (pos speed ∷ pos average ∷ pos (num valid) ∷ pos (num stopped) ∷ pos (num mph) ∷ [])) (now (out .exit)) r ⌝ }
+{
+    let mut p = put_two_flagged(pairs, out, at, speed, average, valid);
+    p = put_flag(out, p, stopped);
+    put_flag(out, p, mph)
+}
+
+// Puts the fields of a turn.
+fn put_turn(
+    pairs: &[u8; 712],
+    out: &mut [u8],
+    at: usize,
+    degrees: u32,
+    right: bool,
+    rudder: i32,
+) -> usize
+    requires { ⌜ (now pairs ≡ digitPairs) × (at + 66 ≤ length (now out)) ⌝ }
+    ensures { λ r. ⌜ Put (now (out .entry)) at (spacedNumbers (pos degrees ∷ pos (num right) ∷ rudder ∷ [])) (now (out .exit)) r ⌝ }
+{
+    let p = put_flagged(pairs, out, at, degrees, right);
+    put_signed(pairs, out, p, rudder)
+}
+
+// Puts the name of a message's kind after a space, and then its fields.
+fn put_message(pairs: &[u8; 712], out: &mut [u8], at: usize, m: Message) -> usize
+    requires { ⌜ (now pairs ≡ digitPairs) × (at + 160 ≤ length (now out)) ⌝ }
+    ensures { λ r. ⌜ Put (now (out .entry)) at (messageText m) (now (out .exit)) r ⌝ }
+{
+    match m {
+        Message::Depth {
+            tenths,
+            anchor,
+            metric,
+            defective,
+            deep,
+            shallow,
+        } => {
+            let p = put_bytes(out, at, b" depth");
+            put_depth(
+                pairs,
+                out,
+                p,
+                tenths,
+                anchor,
+                metric,
+                defective,
+                deep,
+                shallow,
+            )
         }
-        Lookup::Unknown => at,
+        Message::WindAngle { halves } => {
+            let p = put_bytes(out, at, b" windangle");
+            put_number(pairs, out, p, halves)
+        }
+        Message::WindSpeed { tenths, metres } => {
+            let p = put_bytes(out, at, b" windspeed");
+            put_flagged(pairs, out, p, tenths, metres)
+        }
+        Message::Speed { tenths } => {
+            let p = put_bytes(out, at, b" speed");
+            put_number(pairs, out, p, tenths)
+        }
+        Message::Trip { hundredths } => {
+            let p = put_bytes(out, at, b" trip");
+            put_number(pairs, out, p, hundredths)
+        }
+        Message::Total { tenths } => {
+            let p = put_bytes(out, at, b" total");
+            put_number(pairs, out, p, tenths)
+        }
+        Message::Logs { total, trip } => {
+            let p = put_bytes(out, at, b" logs");
+            put_two(pairs, out, p, total, trip)
+        }
+        Message::Speeds {
+            speed,
+            average,
+            valid,
+            stopped,
+            mph,
+        } => {
+            let p = put_bytes(out, at, b" speeds");
+            put_speeds(pairs, out, p, speed, average, valid, stopped, mph)
+        }
+        Message::Water { tenths } => {
+            let p = put_bytes(out, at, b" water");
+            put_signed(pairs, out, p, tenths)
+        }
+        Message::Lamp { level } => {
+            let p = put_bytes(out, at, b" lamp");
+            put_number(pairs, out, p, level)
+        }
+        Message::Latitude {
+            degrees,
+            hundredths,
+            south,
+        } => {
+            let p = put_bytes(out, at, b" lat");
+            put_two_flagged(pairs, out, p, degrees, hundredths, south)
+        }
+        Message::Longitude {
+            degrees,
+            hundredths,
+            east,
+        } => {
+            let p = put_bytes(out, at, b" lon");
+            put_two_flagged(pairs, out, p, degrees, hundredths, east)
+        }
+        Message::Ground { tenths } => {
+            let p = put_bytes(out, at, b" ground");
+            put_number(pairs, out, p, tenths)
+        }
+        Message::Course { halves } => {
+            let p = put_bytes(out, at, b" course");
+            put_number(pairs, out, p, halves)
+        }
+        Message::Time {
+            hours,
+            minutes,
+            seconds,
+        } => {
+            let p = put_bytes(out, at, b" time");
+            put_three(pairs, out, p, hours, minutes, seconds)
+        }
+        Message::Date { month, day, year } => {
+            let p = put_bytes(out, at, b" date");
+            put_three(pairs, out, p, month, day, year)
+        }
+        Message::Key { source, code } => {
+            let p = put_bytes(out, at, b" key");
+            put_two(pairs, out, p, source, code)
+        }
+        Message::Heading {
+            halves,
+            reference,
+            locked,
+        } => {
+            let p = put_bytes(out, at, b" heading");
+            put_two_flagged(pairs, out, p, halves, reference, locked)
+        }
+        Message::Variation { east } => {
+            let p = put_bytes(out, at, b" variation");
+            put_signed(pairs, out, p, east)
+        }
+        Message::Turn {
+            degrees,
+            right,
+            rudder,
+        } => {
+            let p = put_bytes(out, at, b" turn");
+            put_turn(pairs, out, p, degrees, right, rudder)
+        }
     }
 }
 
-// Puts what a datagram says: its kind's name and its fields, or what refused it.
-fn put_content(out: &mut [u8], at: usize, found: Lookup, reading: Reading) -> usize
-    requires { ⌜ at + 300 ≤ length (now out) ⌝ }
-    ensures { λ r. ⌜ Put (now (out .entry)) at (contentOf found reading) (now (out .exit)) r ⌝ }
+// Puts what a datagram says: its message, or what refused it.
+fn put_content(pairs: &[u8; 712], out: &mut [u8], at: usize, reading: Reading) -> usize
+    requires { ⌜ (now pairs ≡ digitPairs) × (at + 160 ≤ length (now out)) ⌝ }
+    ensures { λ r. ⌜ Put (now (out .entry)) at (contentOf reading) (now (out .exit)) r ⌝ }
 {
     match reading {
-        Reading::Read(m) => {
-            let p = put_name_in(out, at, found);
-            let fields = fields::fields_of(m);
-            let values = fields.values;
-            put_numbers(out, p, values, fields.count)
-        }
-        Reading::Refused(r) => put_labelled(out, at, b" refused ", r.number as u64),
+        Reading::Read(m) => put_message(pairs, out, at, m),
+        Reading::Refused(r) => put_labelled(pairs, out, at, b" refused ", r.number as u64),
     }
 }
 
 // Puts the line of a whole datagram.
-fn put_line(out: &mut [u8], at: usize, time: u32, bytes: [u8; 18], count: u8) -> usize
-    requires { ⌜ (count ≤ 18) × (whole (take count bytes) ≡ true) × (at + 512 ≤ length (now out)) ⌝ }
-    ensures { λ r. ⌜ Put (now (out .entry)) at (lineOf time (take count bytes)) (now (out .exit)) r ⌝ }
+fn put_line(pairs: &[u8; 712], out: &mut [u8], at: usize, time: u32, bytes: &[u8]) -> usize
+    requires { ⌜ (now pairs ≡ digitPairs) × (whole (now bytes) ≡ true) × (at + 512 ≤ length (now out)) ⌝ }
+    ensures { λ r. ⌜ Put (now (out .entry)) at (lineOf time (now (bytes .entry))) (now (out .exit)) r ⌝ }
 {
-    let mut p = put_decimal(out, at, time as u64);
-    p = put_hex(out, p, bytes, count);
-    let n = count as usize;
-    let found = message::find(bytes[0]);
-    let reading = reader::read_as(found, &bytes[0..n]);
-    p = put_content(out, p, found, reading);
+    let mut p = put_decimal(pairs, out, at, time as u64);
+    p = put_hex(pairs, out, p, bytes);
+    let reading = reader::read_as(message::find(bytes[0]), bytes);
+    p = put_content(pairs, out, p, reading);
     out[p] = 10;
     p + 1
 }
@@ -310,15 +526,15 @@ pub fn put_header(out: &mut [u8]) -> usize
 }
 
 // Puts why a listing stopped, if it did.
-fn put_stop(out: &mut [u8], at: usize, stop: Stop) -> usize
-    requires { ⌜ at + 64 ≤ length (now out) ⌝ }
+fn put_stop(pairs: &[u8; 712], out: &mut [u8], at: usize, stop: Stop) -> usize
+    requires { ⌜ (now pairs ≡ digitPairs) × (at + 64 ≤ length (now out)) ⌝ }
     ensures { λ r. ⌜ Put (now (out .entry)) at (stopText stop) (now (out .exit)) r ⌝ }
 {
     match stop {
         Stop::Running => at,
         Stop::Stopped(r) => {
-            let mut p = put_labelled(out, at, b"stopped ", r.number as u64);
-            p = put_labelled(out, p, b" at ", r.place);
+            let mut p = put_labelled(pairs, out, at, b"stopped ", r.number as u64);
+            p = put_labelled(pairs, out, p, b" at ", r.place);
             out[p] = 10;
             p + 1
         }
@@ -326,13 +542,13 @@ fn put_stop(out: &mut [u8], at: usize, stop: Stop) -> usize
 }
 
 // Puts the line of the counts.
-fn put_counts(out: &mut [u8], at: usize, progress: Progress) -> usize
-    requires { ⌜ at + 128 ≤ length (now out) ⌝ }
+fn put_counts(pairs: &[u8; 712], out: &mut [u8], at: usize, progress: Progress) -> usize
+    requires { ⌜ (now pairs ≡ digitPairs) × (at + 128 ≤ length (now out)) ⌝ }
     ensures { λ r. ⌜ Put (now (out .entry)) at (countLine (progress .handed) (progress .cancelled) (progress .stray)) (now (out .exit)) r ⌝ }
 {
-    let mut p = put_labelled(out, at, b"handed ", progress.handed);
-    p = put_labelled(out, p, b" cancelled ", progress.cancelled);
-    p = put_labelled(out, p, b" stray ", progress.stray);
+    let mut p = put_labelled(pairs, out, at, b"handed ", progress.handed);
+    p = put_labelled(pairs, out, p, b" cancelled ", progress.cancelled);
+    p = put_labelled(pairs, out, p, b" stray ", progress.stray);
     out[p] = 10;
     p + 1
 }
@@ -344,6 +560,7 @@ pub fn put_end(out: &mut [u8], progress: Progress, stop: Stop) -> usize
     if out.len() < 512 {
         return 0;
     }
-    let p = put_stop(out, 0, stop);
-    put_counts(out, p, progress)
+    let pairs = digit_pairs();
+    let p = put_stop(&pairs, out, 0, stop);
+    put_counts(&pairs, out, p, progress)
 }

@@ -1,24 +1,14 @@
--- `put_content` goes by the case of the reading, as the definition does; the array's first fields are the message's.
+-- `put_content` goes by the case of the reading, as the definition does.
 use borrow.Author.Needs.{needs}
 use native.Mathlib.Omega.{arith}
-use Rattle.listing.proofs.Put.{put-then, put-length}
-use Rattle.listing.proofs.Lines.{name-in-most, fields-count, fields-taken}
 use Rattle.listing.proofs.put_content.Statement.{statement}
 use Rattle.listing.proofs.put_content.Tie as tie
 
 enum-known-reading : tie.Need-enum-known-reading
 enum-known-reading c = search needs
 
-put-name-in-requires : tie.Need-put-name-in-requires
-put-name-in-requires c κs = search needs
-
-fields-of-requires : tie.Need-fields-of-requires
-fields-of-requires c κs = search needs
-
-put-numbers-requires : tie.Need-put-numbers-requires
-put-numbers-requires c κs =
-    let p = c .before .before .before .before .before .put-name-in .ensures in
-    (fields-count _ _ (c .before .before .fields-of .ensures), omega (arith, p .moved, put-length p, name-in-most (c .before .before .before .before .before .before .before .before .before .before .before .args .found)))
+put-message-requires : tie.Need-put-message-requires
+put-message-requires c κs = (c .before .before .before .before .before .pre .0, omega arith)
 
 enum-known-reading-2 : tie.Need-enum-known-reading-2
 enum-known-reading-2 c = search needs
@@ -30,30 +20,27 @@ cast-put-labelled : tie.Need-cast-put-labelled
 cast-put-labelled c = search needs
 
 put-labelled-requires : tie.Need-put-labelled-requires
-put-labelled-requires c κs = search needs
+put-labelled-requires c κs = (c .before .before .before .before .before .before .before .pre .0, omega arith)
 
 same-length : tie.Need-same-length
 same-length c = search needs
 
 returns : tie.Need-returns
-returns c =
-    rw (c .before .before .before .before .before .before .before .before .before .before .before .reading .given .1)
-    (put-then (c .before .before .before .before .before .before .before .before .put-name-in .ensures) (rw (fields-taken _ _ (c .before .before .before .before .before .fields-of .ensures)) at (c .before .before .put-numbers .ensures)))
+returns c = rw (c .before .before .before .before .before .reading .given .1) (c .before .before .put-message .ensures)
 
 same-length-2 : tie.Need-same-length-2
 same-length-2 c = search needs
 
 returns-2 : tie.Need-returns-2
-returns-2 c = rw (c .before .before .before .before .before .before .before .reading2 .given .1) (c .before .before .put-labelled .ensures)
+returns-2 c =
+    rw (c .before .before .before .before .before .before .before .reading2 .given .1) (c .before .before .put-labelled .ensures)
 
 pub put-content-spec : {M : Type 1} → statement M
 put-content-spec =
     tie.close
     (tie.spec
     enum-known-reading
-    put-name-in-requires
-    fields-of-requires
-    put-numbers-requires
+    put-message-requires
     enum-known-reading-2
     slice-aggregate-put-labelled
     cast-put-labelled

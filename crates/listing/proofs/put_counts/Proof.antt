@@ -10,7 +10,7 @@ slice-aggregate-put-labelled : tie.Need-slice-aggregate-put-labelled
 slice-aggregate-put-labelled c = search needs
 
 put-labelled-requires : tie.Need-put-labelled-requires
-put-labelled-requires c κs = search needs
+put-labelled-requires c κs = (c .before .before .before .pre .0, omega arith)
 
 slice-aggregate-put-labelled-2 : tie.Need-slice-aggregate-put-labelled-2
 slice-aggregate-put-labelled-2 c = search needs
@@ -18,7 +18,7 @@ slice-aggregate-put-labelled-2 c = search needs
 put-labelled-requires-2 : tie.Need-put-labelled-requires-2
 put-labelled-requires-2 c κs =
     let p = c .before .before .before .before .put-labelled .ensures in
-    omega (arith, p .moved, put-length p, decimal-most (c .before .before .before .before .before .before .before .before .args .progress .handed))
+    (c .before .before .before .before .before .before .before .before .pre .0, omega (arith, p .moved, put-length p, decimal-most (c .before .before .before .before .before .before .before .before .args .progress .handed)))
 
 slice-aggregate-put-labelled-3 : tie.Need-slice-aggregate-put-labelled-3
 slice-aggregate-put-labelled-3 c = search needs
@@ -28,7 +28,7 @@ put-labelled-requires-3 c κs =
     let p = c .before .before .before .before .before .before .before .before .before .put-labelled .ensures in
     let q = c .before .before .before .before .put-labelled2 .ensures in
     let counts = c .before .before .before .before .before .before .before .before .before .before .before .before .before .args .progress in
-    omega (arith, p .moved, q .moved, put-length p, put-length q, decimal-most (counts .handed), decimal-most (counts .cancelled))
+    (c .before .before .before .before .before .before .before .before .before .before .before .before .before .pre .0, omega (arith, p .moved, q .moved, put-length p, put-length q, decimal-most (counts .handed), decimal-most (counts .cancelled)))
 
 slice-write-out : tie.Need-slice-write-out
 slice-write-out c =

@@ -1,24 +1,115 @@
--- `put_decimal` counts the digits and stores them from the right.
+-- `put_decimal` stores one, two or three digits as they are, and counts those of a longer number and stores them from the right.
+use borrow.Author.Needs.{needs}
+use mathlib.Core.Path.{_∙_}
+use native.Mathlib.Numerals.{add-one}
 use native.Mathlib.Omega.{arith}
-use Rattle.listing.proofs.Decimal.{decimal-most}
+use lib.ListN.{length-set}
+use Rattle.listing.proofs.Decimal.{decimal-most, decimal-one, decimal-two, decimal-three}
 use Rattle.listing.proofs.put_decimal.Statement.{statement}
 use Rattle.listing.proofs.put_decimal.Tie as tie
 
-places-requires : tie.Need-places-requires
-places-requires c κs = tt
+cast-out : tie.Need-cast-out
+cast-out c = search needs
 
-add-end : tie.Need-add-end
-add-end c = omega (arith, c .places .ensures, decimal-most (c .before .before .args .n))
+add-out : tie.Need-add-out
+add-out c = search needs
 
-store-digits-requires : tie.Need-store-digits-requires
-store-digits-requires c κs = omega (arith, c .before .places .ensures, decimal-most (c .before .before .before .args .n))
+slice-write-out : tie.Need-slice-write-out
+slice-write-out c = search needs
+
+add-result : tie.Need-add-result
+add-result c = search needs
 
 same-length : tie.Need-same-length
-same-length c = c .before .before .store-digits .kept .0
+same-length c = search needs
 
 returns : tie.Need-returns
-returns c = record { stored = c .before .before .store-digits .ensures; moved = omega (arith, c .before .before .before .before .places .ensures) }
+returns c =
+    let text = decimal-one (c .before .before .args .n) (c .if1 .taken) in
+    record { stored = rw text; moved = rw text (omega arith) }
+
+store-pair-requires : tie.Need-store-pair-requires
+store-pair-requires c κs = (c .before .before .before .before .pre .0, c .before .if2 .taken, omega arith)
+
+add-result-2 : tie.Need-add-result-2
+add-result-2 c = search needs
+
+same-length-2 : tie.Need-same-length-2
+same-length-2 c = c .before .before .store-pair .kept .1 .0
+
+returns-2 : tie.Need-returns-2
+returns-2 c =
+    let text = decimal-two (c .before .before .before .before .before .before .before .args .n) (c .before .before .before .before .before .if1 .left) (c .before .before .before .before .if2 .taken) in
+    record { stored = c .before .before .store-pair .ensures ∙ rw text; moved = rw text (omega arith) }
+
+cast-out-2 : tie.Need-cast-out-2
+cast-out-2 c = search needs
+
+add-out-2 : tie.Need-add-out-2
+add-out-2 c = search needs
+
+slice-write-out-2 : tie.Need-slice-write-out-2
+slice-write-out-2 c = search needs
+
+add-store-pair : tie.Need-add-store-pair
+add-store-pair c = search needs
+
+store-pair-requires-2 : tie.Need-store-pair-requires-2
+store-pair-requires-2 c κs = (c .before .before .before .before .before .pre .0, omega arith, simp length-set (omega arith))
+
+add-result-3 : tie.Need-add-result-3
+add-result-3 c = search needs
+
+same-length-3 : tie.Need-same-length-3
+same-length-3 c = simp length-set at (c .before .before .store-pair2 .kept .1 .0)
+
+returns-3 : tie.Need-returns-3
+returns-3 c =
+    let text = decimal-three (c .before .before .before .before .before .before .before .before .args .n) (c .before .before .before .before .before .if2 .left) (c .before .before .before .before .if3 .taken) in
+    record { stored = c .before .before .store-pair2 .ensures ∙ rw (text, add-one); moved = rw text (omega arith) }
+
+places-requires : tie.Need-places-requires
+places-requires c κs = search needs
+
+add-end : tie.Need-add-end
+add-end c = omega (arith, c .places .ensures, decimal-most (c .before .before .before .before .before .args .n))
+
+store-digits-requires : tie.Need-store-digits-requires
+store-digits-requires c κs =
+    let most = decimal-most (c .before .before .before .before .before .before .args .n) in
+    (c .before .before .before .before .before .before .pre .0, omega (arith, c .before .places .ensures), omega (arith, c .before .places .ensures, most))
+
+same-length-4 : tie.Need-same-length-4
+same-length-4 c = c .before .before .store-digits .kept .1 .0
+
+returns-4 : tie.Need-returns-4
+returns-4 c =
+    record { stored = c .before .before .store-digits .ensures; moved = omega (arith, c .before .before .before .before .places .ensures) }
 
 pub put-decimal-spec : {M : Type 1} → statement M
 put-decimal-spec =
-    tie.close (tie.spec places-requires add-end store-digits-requires same-length returns)
+    tie.close
+    (tie.spec
+    cast-out
+    add-out
+    slice-write-out
+    add-result
+    same-length
+    returns
+    store-pair-requires
+    add-result-2
+    same-length-2
+    returns-2
+    cast-out-2
+    add-out-2
+    slice-write-out-2
+    add-store-pair
+    store-pair-requires-2
+    add-result-3
+    same-length-3
+    returns-3
+    places-requires
+    add-end
+    store-digits-requires
+    same-length-4
+    returns-4)

@@ -10,20 +10,31 @@ use Rattle.listing.proofs.put_end.Tie as tie
 returns : tie.Need-returns
 returns c = rw (lt-leb _ _ (c .if1 .taken))
 
+digit-pairs-requires : tie.Need-digit-pairs-requires
+digit-pairs-requires c κs = search needs
+
 put-stop-requires : tie.Need-put-stop-requires
-put-stop-requires c κs = search needs
+put-stop-requires c κs = (c .before .before .digit-pairs .ensures, omega arith)
 
 put-counts-requires : tie.Need-put-counts-requires
 put-counts-requires c κs =
-    let p = c .before .before .before .put-stop .ensures in
-    omega (arith, p .moved, put-length p, stop-most (c .before .before .before .before .before .before .before .args .stop))
+    let p = c .before .before .before .before .put-stop .ensures in
+    (c .before .before .before .before .before .before .before .digit-pairs .ensures, omega (arith, p .moved, put-length p, stop-most (c .before .before .before .before .before .before .before .before .before .before .args .stop)))
 
 same-length : tie.Need-same-length
 same-length c = search needs
 
 returns-2 : tie.Need-returns-2
-returns-2 c = rw (le-leb _ _ (c .before .before .before .before .before .before .before .before .if1 .left)) (put-placed (put-then (c .before .before .before .before .before .before .put-stop .ensures) (c .before .before .put-counts .ensures)))
+returns-2 c =
+    rw (le-leb _ _ (c .before .before .before .before .before .before .before .before .before .before .before .if1 .left)) (put-placed (put-then (c .before .before .before .before .before .before .before .put-stop .ensures) (c .before .before .put-counts .ensures)))
 
 pub put-end-spec : {M : Type 1} → statement M
 put-end-spec =
-    tie.close (tie.spec returns put-stop-requires put-counts-requires same-length returns-2)
+    tie.close
+    (tie.spec
+    returns
+    digit-pairs-requires
+    put-stop-requires
+    put-counts-requires
+    same-length
+    returns-2)

@@ -19,7 +19,7 @@ cast-put-labelled : tie.Need-cast-put-labelled
 cast-put-labelled c = search needs
 
 put-labelled-requires : tie.Need-put-labelled-requires
-put-labelled-requires c κs = search needs
+put-labelled-requires c κs = (c .before .before .before .before .before .before .before .pre .0, omega arith)
 
 slice-aggregate-put-labelled-2 : tie.Need-slice-aggregate-put-labelled-2
 slice-aggregate-put-labelled-2 c = search needs
@@ -27,7 +27,7 @@ slice-aggregate-put-labelled-2 c = search needs
 put-labelled-requires-2 : tie.Need-put-labelled-requires-2
 put-labelled-requires-2 c κs =
     let p = c .before .before .before .before .put-labelled .ensures in
-    omega (arith, p .moved, put-length p, decimal-most (c .before .before .before .before .before .before .before .before .before .stop .given .0 .0 .number))
+    (c .before .before .before .before .before .before .before .before .before .before .before .before .pre .0, omega (arith, p .moved, put-length p, decimal-most (c .before .before .before .before .before .before .before .before .before .stop .given .0 .0 .number)))
 
 slice-write-out : tie.Need-slice-write-out
 slice-write-out c =

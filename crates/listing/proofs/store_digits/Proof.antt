@@ -8,10 +8,10 @@ use Rattle.listing.proofs.store_digits.Statement.{statement}
 use Rattle.listing.proofs.store_digits.Tie as tie
 
 abbrev Inv-loop : tie.InvT-loop
-Inv-loop out₀ at end n e₀ m₀ out e m = Partly out₀ at n out e m
+Inv-loop pairs out₀ at end n e₀ m₀ out e m = Partly out₀ at n out e m
 
 abbrev μ-loop : tie.MeasureT-loop
-μ-loop out₀ at end n e₀ m₀ out e m = m
+μ-loop pairs out₀ at end n e₀ m₀ out e m = m
 
 loop-holds : tie.Need-loop-holds Inv-loop μ-loop
 loop-holds c = partly-none _ _ _ _ (omega arith) (omega arith)
@@ -22,7 +22,7 @@ sub-e c = omega (arith, partly-length (c .before .loop .inv) (c .loop-test .take
 store-pair-requires : tie.Need-store-pair-requires Inv-loop μ-loop
 store-pair-requires c κs =
     let p = c .before .before .loop .inv in
-    omega (arith, p .place, partly-keeps p, partly-length p (c .before .loop-test .taken))
+    (c .before .before .before .before .pre .0, omega arith, omega (arith, p .place, partly-keeps p, partly-length p (c .before .loop-test .taken)))
 
 loop-less : tie.Need-loop-less Inv-loop μ-loop
 loop-less c = search needs
@@ -45,7 +45,7 @@ slice-write-out c =
 store-pair-requires-2 : tie.Need-store-pair-requires-2 Inv-loop μ-loop
 store-pair-requires-2 c κs =
     let p = c .before .before .before .loop .inv in
-    omega (arith, p .place, partly-keeps p, place-two p (omega arith) (omega arith))
+    (c .before .before .before .before .before .pre .0, omega arith, omega (arith, p .place, partly-keeps p, place-two p (omega arith) (omega arith)))
 
 same-length : tie.Need-same-length Inv-loop μ-loop
 same-length c = rw length-set (partly-keeps (c .before .before .loop .inv))
@@ -54,7 +54,7 @@ returns : tie.Need-returns Inv-loop μ-loop
 returns c = partly-one (c .before .before .loop .inv) (c .if1 .taken)
 
 same-length-2 : tie.Need-same-length-2 Inv-loop μ-loop
-same-length-2 c = c .before .before .store-pair2 .kept .0 ∙ partly-keeps (c .before .before .before .before .before .before .loop .inv)
+same-length-2 c = c .before .before .store-pair2 .kept .1 .0 ∙ partly-keeps (c .before .before .before .before .before .before .loop .inv)
 
 returns-2 : tie.Need-returns-2 Inv-loop μ-loop
 returns-2 c = c .before .before .store-pair2 .ensures ∙ partly-two (c .before .before .before .before .before .before .loop .inv) (omega arith) (omega arith)

@@ -1,7 +1,9 @@
 -- `bits_of` adds 2^32 in 64 bits, where nothing overflows or is negative, and keeps the low 32 bits.
 use borrow.Author.Needs.{needs}
+use mathlib.Core.Path.{sym, subst}
 use native.Mathlib.Omega.{arith}
 use mir.Syntax.{w32, w64}
+use mir.Val.{SFits}
 use mir.ValLaws.{toZ-ofZ, toZ-pos}
 use Rattle.number.proofs.Signed.{lift, lift-small, lift-bits, wide, lifted}
 use Rattle.number.proofs.bits_of.Statement.{statement}
@@ -12,7 +14,7 @@ cast-result c = rw (toZ-ofZ w32 (c .args .z) (c .fits .z)) (wide (c .args .z) (c
 
 add-result : tie.Need-add-result
 add-result c =
-    rw (lifted (c .args .z) (c .fits .z)) (record { sfits = lift-small (c .args .z) (c .fits .z .sfits) })
+    subst (SFits w64) (sym (lifted (c .args .z) (c .fits .z))) (record { sfits = lift-small (c .args .z) (c .fits .z .sfits) })
 
 cast-result-2 : tie.Need-cast-result-2
 cast-result-2 c =

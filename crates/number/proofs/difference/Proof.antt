@@ -1,7 +1,11 @@
 -- `difference` does not overflow: both words are below 2^16.
 use borrow.Author.Needs.{needs}
+use mathlib.Core.Path.{_≡_, sym, ap, subst, _∙_}
+use Prim.Native.Nat.{ℕ, _<_}
 use native.Mathlib.Omega.{arith}
+use lib.IntN.{ℤ, pos, _-ℤ_}
 use mir.Syntax.{w32}
+use mir.Val.{SFits, toZ, ofZ}
 use mir.ValLaws.{toZ-pos, toZ-ofZ}
 use Rattle.number.proofs.Signed.{diff-small}
 use Rattle.number.proofs.difference.Statement.{statement}
@@ -13,15 +17,24 @@ cast-result c = search needs
 cast-result-2 : tie.Need-cast-result-2
 cast-result-2 c = search needs
 
+-- the machine's difference of two words is that of the numbers
+apart : (a b : ℕ) → a < 65536 → b < 65536 → toZ w32 a -ℤ toZ w32 b ≡ pos a -ℤ pos b
+apart a b h k =
+    ap (λ (z : ℤ). z -ℤ toZ w32 b) (toZ-pos w32 a (omega arith)) ∙ ap (λ (z : ℤ). pos a -ℤ z) (toZ-pos w32 b (omega arith))
+
+small : (a b : ℕ) → a < 65536 → b < 65536 → SFits w32 (pos a -ℤ pos b)
+small a b h k = record { sfits = diff-small a b 2147483648 (omega arith) (omega arith) }
+
 sub-result : tie.Need-sub-result
 sub-result c =
-    rw (toZ-pos w32 (c .args .a) (omega arith), toZ-pos w32 (c .args .b) (omega arith))
-    (record { sfits = diff-small (c .args .a) (c .args .b) 2147483648 (omega arith) (omega arith) })
+    let a = c .args in
+    subst (SFits w32) (sym (apart (a .a) (a .b) (omega arith) (omega arith))) (small (a .a) (a .b) (omega arith) (omega arith))
 
 returns : tie.Need-returns
 returns c =
-    rw (toZ-pos w32 (c .args .a) (omega arith), toZ-pos w32 (c .args .b) (omega arith))
-    (toZ-ofZ w32 _ (record { sfits = diff-small (c .args .a) (c .args .b) 2147483648 (omega arith) (omega arith) }))
+    let a = c .args in
+    ap (λ (z : ℤ). toZ w32 (ofZ w32 z)) (apart (a .a) (a .b) (omega arith) (omega arith))
+    ∙ toZ-ofZ w32 (pos (a .a) -ℤ pos (a .b)) (small (a .a) (a .b) (omega arith) (omega arith))
 
 pub difference-spec : {M : Type 1} → statement M
 difference-spec = tie.close (tie.spec cast-result cast-result-2 sub-result returns)

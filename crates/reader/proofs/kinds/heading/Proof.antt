@@ -2,6 +2,8 @@
 use borrow.Author.Needs.{needs}
 use borrow.Author.Tests.{le-leb, lt-leb}
 use mathlib.Core.Path.{ap}
+use Prim.Native.Nat.{_%_}
+use native.Mathlib.Omega.{arith}
 use Rattle.message.specs.declared.Reading.the-variants.{Refused}
 use Rattle.reader.proofs.kinds.heading.Statement.{statement}
 use Rattle.reader.proofs.kinds.heading.Tie as tie
@@ -10,13 +12,13 @@ out-of-range-requires : tie.Need-out-of-range-requires
 out-of-range-requires c κs = search needs
 
 returns : tie.Need-returns
-returns c = rw (lt-leb _ _ (c .before .if1 .taken)) (ap Refused (c .out-of-range .ensures))
+returns c = rw (lt-leb (c .before .before .args .vw % 64) 44 (omega arith)) (ap Refused (c .out-of-range .ensures))
 
 out-of-range-requires-2 : tie.Need-out-of-range-requires-2
 out-of-range-requires-2 c κs = search needs
 
 returns-2 : tie.Need-returns-2
-returns-2 c = rw (le-leb _ _ (c .before .before .if1 .left), lt-leb _ _ (c .before .if2 .taken)) (ap Refused (c .out-of-range2 .ensures))
+returns-2 c = rw (le-leb (c .before .before .before .args .vw % 64) 44 (omega arith), lt-leb (c .before .before .before .args .xy) 179 (omega arith)) (ap Refused (c .out-of-range2 .ensures))
 
 half-angle-requires : tie.Need-half-angle-requires
 half-angle-requires c κs = search needs
@@ -28,7 +30,7 @@ add-t15 : tie.Need-add-t15
 add-t15 c = search needs
 
 returns-3 : tie.Need-returns-3
-returns-3 c = rw (le-leb _ _ (c .before .before .if1 .left), le-leb _ _ (c .before .if2 .left), c .half-angle .ensures)
+returns-3 c = rw (le-leb (c .before .before .before .args .vw % 64) 44 (omega arith), le-leb (c .before .before .before .args .xy) 179 (omega arith), c .half-angle .ensures)
 
 pub heading-spec : {M : Type 1} → statement M
 heading-spec =

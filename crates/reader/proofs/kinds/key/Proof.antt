@@ -1,6 +1,8 @@
 -- `key` makes the definition's test of the repeated byte.
 use borrow.Author.Needs.{needs}
 use borrow.Author.Tests.{eq-eqb, ne-eqb}
+use Prim.Native.Nat.{_+_}
+use native.Mathlib.Omega.{arith}
 use Rattle.reader.proofs.kinds.key.Statement.{statement}
 use Rattle.reader.proofs.kinds.key.Tie as tie
 
@@ -8,10 +10,10 @@ add-if1 : tie.Need-add-if1
 add-if1 c = search needs
 
 returns : tie.Need-returns
-returns c = rw (eq-eqb _ _ (c .if1 .taken))
+returns c = rw (eq-eqb (c .before .args .code + c .before .args .repeat) 255 (omega arith))
 
 returns-2 : tie.Need-returns-2
-returns-2 c = rw (ne-eqb _ _ (c .if1 .left))
+returns-2 c = rw (ne-eqb (c .before .args .code + c .before .args .repeat) 255 (λ e. omega (arith, c .if1 .left)))
 
 pub key-spec : {M : Type 1} → statement M
 key-spec = tie.close (tie.spec add-if1 returns returns-2)

@@ -1,0 +1,51 @@
+-- `carries` tests the mark and the symbol's high byte.
+use borrow.Author.Needs.{needs}
+use mathlib.Core.Path.{sym, _∙_}
+use mathlib.Core.Bool.{false≢true}
+use Prim.Native.Nat.{_+_}
+use borrow.Author.Tests.{eqb-true}
+use native.Mathlib.Omega.{arith}
+use Rattle.listing.proofs.Gathering.{carried}
+use Rattle.listing.proofs.block.carries.Statement.{statement}
+use Rattle.listing.proofs.block.carries.Tie as tie
+
+shared-slice-read-word-of : tie.Need-shared-slice-read-word-of
+shared-slice-read-word-of c = search needs
+
+add-word-of : tie.Need-add-word-of
+add-word-of c = search needs
+
+shared-slice-read-word-of-2 : tie.Need-shared-slice-read-word-of-2
+shared-slice-read-word-of-2 c = search needs
+
+word-of-requires : tie.Need-word-of-requires
+word-of-requires c κs = search needs
+
+returns : tie.Need-returns
+returns c = λ h. absurd (false≢true h)
+
+add-result : tie.Need-add-result
+add-result c = search needs
+
+shared-slice-read-result : tie.Need-shared-slice-read-result
+shared-slice-read-result c = search needs
+
+returns-2 : tie.Need-returns-2
+returns-2 c =
+    λ h.
+    let start = c .before .before .before .before .before .before in
+    let at = start .args .at in
+    carried (start .args .input .now) at (start .args .command) (start .pre .0) (start .pre .1) (sym (c .before .before .word-of .ensures) ∙ c .before .if1 .left) (omega (arith, c .before .before .before .before .shared-slice-known2 .given at)) (omega (arith, c .shared-slice-known4 .given (at + 6))) (eqb-true _ _ h)
+
+pub carries-spec : {M : Type 1} → statement M
+carries-spec =
+    tie.close
+    (tie.spec
+    shared-slice-read-word-of
+    add-word-of
+    shared-slice-read-word-of-2
+    word-of-requires
+    returns
+    add-result
+    shared-slice-read-result
+    returns-2)
