@@ -1,0 +1,4 @@
+pub mod Told
+pub mod Hear
+pub mod Read
+pub mod Write

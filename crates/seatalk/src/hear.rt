@@ -1,0 +1,81 @@
+// One symbol heard, with the listener's state in lent bytes.
+use crate::bytes::code_of;
+use crate::bytes::put;
+use datagram::NO_ROOM;
+use datagram::NOT_SOUND;
+use datagram::Refusal;
+use datagram::SYMBOL_ABOVE;
+use listener::Answer;
+use listener::Heard;
+use listener::Listener;
+ghost use mathlib.Core.Path.{_≡_};
+ghost use lib.ListN.{length};
+ghost use Rattle.seatalk.specs.Hear.{told, listenerOf, numberOf, answered, hearCall};
+
+// An answer by its number in document 01's order, or the refusal.
+pub enum Numbered {
+    Number(u8),
+    Refused(Refusal),
+}
+
+fn number_of(answer: Answer) -> Numbered
+    ensures { λ r. ⌜ r ≡ numberOf answer ⌝ }
+{
+    match answer {
+        Answer::Opened => Numbered::Number(0),
+        Answer::Cancelled => Numbered::Number(1),
+        Answer::Stray => Numbered::Number(2),
+        Answer::Kept => Numbered::Number(3),
+        Answer::HandedOut => Numbered::Number(4),
+        Answer::Refused(r) => Numbered::Refused(r),
+    }
+}
+
+// The listener that 18 bytes are.
+fn listener_of(state: &[u8]) -> Listener
+    requires { ⌜ length (now state) ≡ 18 ⌝ }
+    ensures { λ r. ⌜ r ≡ listenerOf (now (state .entry)) ⌝ }
+{
+    let mut bytes = [0u8; 17];
+    put(&mut bytes, 0, &state[1..]);
+    Listener {
+        bytes: bytes,
+        held: state[0],
+    }
+}
+
+// Stores the next state and the result, where the listener refused nothing and there is room.
+fn answer(h: Heard, state: &mut [u8], result: &mut [u8]) -> i32
+    requires { ⌜ length (now state) ≡ 18 ⌝ }
+    ensures { λ r. ⌜ told r (now (state .exit)) (now (result .exit)) ≡ answered (numberOf (h .answer)) h (now (state .entry)) (now (result .entry)) ⌝ }
+{
+    let answer = h.answer;
+    match number_of(answer) {
+        Numbered::Refused(r) => code_of(r),
+        Numbered::Number(n) => {
+            if result.len() < 20 {
+                return code_of(NO_ROOM);
+            }
+            let next = h.listener;
+            state[0] = next.held;
+            put(state, 1, &next.bytes);
+            result[0] = n;
+            result[1] = h.count;
+            put(result, 2, &h.bytes);
+            20
+        }
+    }
+}
+
+pub fn hear(state: &mut [u8], symbol: u32, result: &mut [u8]) -> i32
+    ensures { λ r. ⌜ told r (now (state .exit)) (now (result .exit)) ≡ hearCall (now (state .entry)) symbol (now (result .entry)) ⌝ }
+{
+    if 511 < symbol {
+        return code_of(SYMBOL_ABOVE);
+    }
+    if state.len() != 18 {
+        return code_of(NOT_SOUND);
+    }
+    let h = listener::hear(listener_of(state), symbol as u16);
+    answer(h, state, result)
+}

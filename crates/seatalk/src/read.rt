@@ -1,0 +1,53 @@
+// Any bytes read as the fields of a message.
+use crate::bytes::code_of;
+use crate::bytes::put_word;
+use datagram::NO_ROOM;
+use fields::Fields;
+use message::Message;
+use message::Reading;
+ghost use mathlib.Core.Path.{_≡_};
+ghost use mathlib.Core.List.{_++_};
+ghost use Prim.Native.Nat.{_*_, _≤_};
+ghost use lib.ListN.{length, take, drop};
+ghost use Rattle.message.specs.declared.Verdict.the-variants.{InRange};
+ghost use Rattle.message.specs.Fields.{fieldsOf};
+ghost use Rattle.message.specs.Range.{rangeOf};
+ghost use Rattle.named.specs.Numbers.{fieldsBytes, allFit};
+ghost use Rattle.seatalk.specs.Told.{told, placed};
+ghost use Rattle.seatalk.specs.Read.{readCall};
+
+// Stores the fields, 4 bytes each.
+fn store(f: Fields, result: &mut [u8])
+    requires { ⌜ (f .count ≤ 12) × ((4 * f .count ≤ length (now result)) × AllFit (take (f .count) (f .values))) ⌝ }
+    ensures { λ _. ⌜ now (result .exit) ≡ fieldsBytes (take (f .count) (f .values)) ++ drop (4 * f .count) (now (result .entry)) ⌝ }
+{
+    let n = f.count as usize;
+    let mut i = 0;
+    while i < n {
+        put_word(result, 4 * i, number::bits_of(f.values[i] as i32));
+        i += 1;
+    }
+}
+
+// The fields of a message in range, or refusal 8.
+fn place(m: Message, result: &mut [u8]) -> i32
+    requires { ⌜ rangeOf m ≡ InRange ⌝ }
+    ensures { λ r. ⌜ told r (now (result .exit)) ≡ placed (fieldsBytes (fieldsOf m)) (now (result .entry)) ⌝ }
+{
+    let f = fields::fields_of(m);
+    let size = 4 * (f.count as i32);
+    if result.len() < size as usize {
+        return code_of(NO_ROOM);
+    }
+    store(f, result);
+    size
+}
+
+pub fn read(bytes: &[u8], result: &mut [u8]) -> i32
+    ensures { λ r. ⌜ told r (now (result .exit)) ≡ readCall (now (bytes .entry)) (now (result .entry)) ⌝ }
+{
+    match reader::read(bytes) {
+        Reading::Refused(r) => code_of(r),
+        Reading::Read(m) => place(m, result),
+    }
+}

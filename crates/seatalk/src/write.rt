@@ -1,0 +1,53 @@
+// A command and its fields written as the symbols of a message.
+use crate::bytes::code_of;
+use datagram::NO_ROOM;
+use message::Message;
+use named::Naming;
+use writer::Written;
+ghost use mathlib.Core.Path.{_≡_};
+ghost use mathlib.Core.List.{_++_};
+ghost use Prim.Native.Nat.{_*_, _≤_, _<_};
+ghost use lib.ListN.{length, take, drop};
+ghost use Rattle.message.specs.Range.{rangeOf};
+ghost use Rattle.seatalk.specs.Told.{told};
+ghost use Rattle.seatalk.specs.Write.{writeTold, writeCall, symbolsBytes};
+
+// Stores the first n symbols, 2 bytes each.
+fn store(symbols: &[u16; 18], n: usize, result: &mut [u8])
+    requires { ⌜ (n ≤ 18) × ((2 * n ≤ length (now result)) × AllBelow (take n symbols)) ⌝ }
+    ensures { λ _. ⌜ now (result .exit) ≡ symbolsBytes (take n (now (symbols .entry))) ++ drop (2 * n) (now (result .entry)) ⌝ }
+{
+    let mut i = 0;
+    while i < n {
+        let s = symbols[i];
+        result[2 * i] = (s % 256) as u8;
+        result[2 * i + 1] = (s / 256) as u8;
+        i += 1;
+    }
+}
+
+// The symbols of a message, or refusal 7 or 8.
+fn place(m: Message, result: &mut [u8]) -> i32
+    ensures { λ r. ⌜ told r (now (result .exit)) ≡ writeTold (rangeOf m) m (now (result .entry)) ⌝ }
+{
+    let mut symbols = [0u16; 18];
+    match writer::write(m, &mut symbols, 0) {
+        Written::Refused(r) => code_of(r),
+        Written::Wrote(n) => {
+            if result.len() < 2 * n {
+                return code_of(NO_ROOM);
+            }
+            store(&symbols, n, result);
+            2 * (n as i32)
+        }
+    }
+}
+
+pub fn write(command: u32, fields: &[u8], result: &mut [u8]) -> i32
+    ensures { λ r. ⌜ told r (now (result .exit)) ≡ writeCall command (now (fields .entry)) (now (result .entry)) ⌝ }
+{
+    match named::name(command, fields) {
+        Naming::Refused(r) => code_of(r),
+        Naming::Named(m) => place(m, result),
+    }
+}
