@@ -1,3 +1,5 @@
 pub mod Places
 pub mod Flags
 pub mod Rows
+pub mod Each
+pub mod Signs

@@ -3,16 +3,27 @@ use Prim.Native.Nat.{ℕ, _+_, _*_, _/_, _%_}
 use mathlib.Core.List.{List, [], _∷_, _++_}
 use lib.IntN.{ℤ}
 use mir.Syntax.{w32}
-use mir.Val.{toZ, ofZ}
+use mir.Val.{SFits, toZ, ofZ}
 
 -- the four bytes of 32 bits
 abbrev pub wordBytes : ℕ → List ℕ
 wordBytes n = (n % 256) ∷ (n / 256 % 256) ∷ (n / 65536 % 256) ∷ (n / 16777216 % 256) ∷ []
 
--- the fields one after the other
+-- each number has 32 bits with its sign
+abbrev pub AllFit : List ℤ → Type 0
+AllFit [] = Unit {0}
+AllFit (z ∷ zs) = SFits w32 z × AllFit zs
+
+-- the bytes of each, one after the other
+abbrev pub each : {A : Type 0} → (A → List ℕ) → List A → List ℕ
+each f [] = []
+each f (x ∷ xs) = f x ++ each f xs
+
+abbrev pub fieldBytes : ℤ → List ℕ
+fieldBytes z = wordBytes (ofZ w32 z)
+
 abbrev pub fieldsBytes : List ℤ → List ℕ
-fieldsBytes [] = []
-fieldsBytes (z ∷ zs) = wordBytes (ofZ w32 z) ++ fieldsBytes zs
+fieldsBytes zs = each fieldBytes zs
 
 -- the 32 bits of four bytes
 abbrev pub fourBytes : ℕ → ℕ → ℕ → ℕ → ℕ

@@ -9,12 +9,15 @@ use Rattle.message.specs.Spelling.{symbolsOf}
 use Rattle.named.specs.declared.Naming.{Naming}
 use Rattle.named.specs.declared.Naming.the-variants.{Named, Refused}
 use Rattle.named.specs.Naming.{namedOf}
+use Rattle.named.specs.Numbers.{each}
 use Rattle.seatalk.specs.Told.{Told, refused, placed}
 
--- symbols as bytes: 2 each, low byte first
+-- a symbol is 2 bytes, low byte first
+abbrev pub symbolBytes : ℕ → List ℕ
+symbolBytes s = (s % 256) ∷ (s / 256) ∷ []
+
 abbrev pub symbolsBytes : List ℕ → List ℕ
-symbolsBytes [] = []
-symbolsBytes (s ∷ rest) = (s % 256) ∷ (s / 256) ∷ symbolsBytes rest
+symbolsBytes symbols = each symbolBytes symbols
 
 -- the symbols of a message in range, or refusal 7; 8 comes last
 abbrev pub writeTold : Verdict → Message → List ℕ → Told

@@ -11,8 +11,8 @@ ghost use Rattle.seatalk.specs.Told.{codeOf};
 pub fn code_of(r: Refusal) -> i32
     ensures { λ c. ⌜ c ≡ codeOf r ⌝ }
 {
-    let place = (r.place % 8388608) as i32;
-    0 - (r.number as i32 + 256 * place)
+    let n = r.number as u32 + 256 * ((r.place % 8388608) as u32);
+    0 - n as i32
 }
 
 // Puts these bytes from a place on.

@@ -9,8 +9,10 @@ use listener::Answer;
 use listener::Heard;
 use listener::Listener;
 ghost use mathlib.Core.Path.{_≡_};
-ghost use lib.ListN.{length};
-ghost use Rattle.seatalk.specs.Hear.{told, listenerOf, numberOf, answered, hearCall};
+ghost use mathlib.Core.List.{_++_};
+ghost use Prim.Native.Nat.{_≤_};
+ghost use lib.ListN.{length, drop};
+ghost use Rattle.seatalk.specs.Hear.{told, stateOf, listenerOf, numberOf, resultOf, answered, hearCall};
 
 // An answer by its number in document 01's order, or the refusal.
 pub enum Numbered {
@@ -44,6 +46,25 @@ fn listener_of(state: &[u8]) -> Listener
     }
 }
 
+// Stores a state in 18 bytes.
+fn put_state(l: Listener, state: &mut [u8])
+    requires { ⌜ length (now state) ≡ 18 ⌝ }
+    ensures { λ _. ⌜ now (state .exit) ≡ stateOf l ⌝ }
+{
+    state[0] = l.held;
+    put(state, 1, &l.bytes);
+}
+
+// Stores the 20 bytes of a result.
+fn put_result(number: u8, h: Heard, result: &mut [u8])
+    requires { ⌜ 20 ≤ length (now result) ⌝ }
+    ensures { λ _. ⌜ now (result .exit) ≡ resultOf number h ++ drop 20 (now (result .entry)) ⌝ }
+{
+    result[0] = number;
+    result[1] = h.count;
+    put(result, 2, &h.bytes);
+}
+
 // Stores the next state and the result, where the listener refused nothing and there is room.
 fn answer(h: Heard, state: &mut [u8], result: &mut [u8]) -> i32
     requires { ⌜ length (now state) ≡ 18 ⌝ }
@@ -52,16 +73,13 @@ fn answer(h: Heard, state: &mut [u8], result: &mut [u8]) -> i32
     let answer = h.answer;
     match number_of(answer) {
         Numbered::Refused(r) => code_of(r),
-        Numbered::Number(n) => {
+        Numbered::Number(number) => {
             if result.len() < 20 {
                 return code_of(NO_ROOM);
             }
             let next = h.listener;
-            state[0] = next.held;
-            put(state, 1, &next.bytes);
-            result[0] = n;
-            result[1] = h.count;
-            put(result, 2, &h.bytes);
+            put_state(next, state);
+            put_result(number, h, result);
             20
         }
     }

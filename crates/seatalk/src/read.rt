@@ -12,7 +12,7 @@ ghost use lib.ListN.{length, take, drop};
 ghost use Rattle.message.specs.declared.Verdict.the-variants.{InRange};
 ghost use Rattle.message.specs.Fields.{fieldsOf};
 ghost use Rattle.message.specs.Range.{rangeOf};
-ghost use Rattle.named.specs.Numbers.{fieldsBytes, allFit};
+ghost use Rattle.named.specs.Numbers.{fieldsBytes, AllFit};
 ghost use Rattle.seatalk.specs.Told.{told, placed};
 ghost use Rattle.seatalk.specs.Read.{readCall};
 
@@ -35,12 +35,12 @@ fn place(m: Message, result: &mut [u8]) -> i32
     ensures { λ r. ⌜ told r (now (result .exit)) ≡ placed (fieldsBytes (fieldsOf m)) (now (result .entry)) ⌝ }
 {
     let f = fields::fields_of(m);
-    let size = 4 * (f.count as i32);
-    if result.len() < size as usize {
+    let size = 4 * (f.count as usize);
+    if result.len() < size {
         return code_of(NO_ROOM);
     }
     store(f, result);
-    size
+    size as i32
 }
 
 pub fn read(bytes: &[u8], result: &mut [u8]) -> i32

@@ -6,15 +6,15 @@ use named::Naming;
 use writer::Written;
 ghost use mathlib.Core.Path.{_≡_};
 ghost use mathlib.Core.List.{_++_};
-ghost use Prim.Native.Nat.{_*_, _≤_, _<_};
+ghost use Prim.Native.Nat.{_*_, _≤_};
 ghost use lib.ListN.{length, take, drop};
 ghost use Rattle.message.specs.Range.{rangeOf};
 ghost use Rattle.seatalk.specs.Told.{told};
 ghost use Rattle.seatalk.specs.Write.{writeTold, writeCall, symbolsBytes};
 
 // Stores the first n symbols, 2 bytes each.
-fn store(symbols: &[u16; 18], n: usize, result: &mut [u8])
-    requires { ⌜ (n ≤ 18) × ((2 * n ≤ length (now result)) × AllBelow (take n symbols)) ⌝ }
+fn store(symbols: &[u16], n: usize, result: &mut [u8])
+    requires { ⌜ (n ≤ length (now symbols)) × (2 * n ≤ length (now result)) ⌝ }
     ensures { λ _. ⌜ now (result .exit) ≡ symbolsBytes (take n (now (symbols .entry))) ++ drop (2 * n) (now (result .entry)) ⌝ }
 {
     let mut i = 0;
@@ -34,11 +34,12 @@ fn place(m: Message, result: &mut [u8]) -> i32
     match writer::write(m, &mut symbols, 0) {
         Written::Refused(r) => code_of(r),
         Written::Wrote(n) => {
-            if result.len() < 2 * n {
+            let size = 2 * n;
+            if result.len() < size {
                 return code_of(NO_ROOM);
             }
             store(&symbols, n, result);
-            2 * (n as i32)
+            size as i32
         }
     }
 }

@@ -1,17 +1,9 @@
 -- `message_of` makes each kind from the numbers that its clause names.
 use Rattle.named.specs.Naming.{messageOf}
 use borrow.Author.Needs.{needs}
-use mathlib.Core.Path.{_≡_, _∙_}
-use lib.IntN.{ℤ}
-use mir.Syntax.{w32}
-use mir.Val.{SFits, toZ, ofZ}
-use mir.ValLaws.{toZ-ofZ}
+use Rattle.named.proofs.Signs.{handed}
 use Rattle.named.proofs.kinds.message_of.Statement.{statement}
 use Rattle.named.proofs.kinds.message_of.Tie as tie
-
--- a number handed from one call to another, as the machine reads it back from its bits
-handed : {z y : ℤ} → SFits w32 z → z ≡ y → toZ w32 (ofZ w32 z) ≡ y
-handed {z} h e = toZ-ofZ w32 z h ∙ e
 
 enum-told : tie.Need-enum-told
 enum-told c = search needs

@@ -1,8 +1,7 @@
 -- `signed_at` gives the bits their sign.
 use mathlib.Core.Path.{_∙_}
-use mir.Syntax.{w32}
-use mir.ValLaws.{toZ-ofZ}
 use borrow.Author.Needs.{needs}
+use Rattle.named.proofs.Signs.{handed}
 use Rattle.named.proofs.numbers.signed_at.Statement.{statement}
 use Rattle.named.proofs.numbers.signed_at.Tie as tie
 
@@ -13,7 +12,7 @@ with-sign-requires : tie.Need-with-sign-requires
 with-sign-requires c κs = search needs
 
 returns : tie.Need-returns
-returns c = toZ-ofZ w32 (c .with-sign .result) (record { sfits = c .with-sign .ok }) ∙ c .with-sign .ensures ∙ c .before .bits-at .ensures
+returns c = handed (record { sfits = c .with-sign .ok }) (c .with-sign .ensures ∙ c .before .bits-at .ensures)
 
 pub signed-at-spec : {M : Type 1} → statement M
 signed-at-spec = tie.close (tie.spec bits-at-requires with-sign-requires returns)

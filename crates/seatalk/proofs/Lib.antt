@@ -1,0 +1,3 @@
+pub mod Laid
+pub mod Fits
+pub mod Spelled

@@ -1,0 +1,87 @@
+-- What the writer answers and has stored, into room for any datagram, is what the definition tells.
+use mathlib.Core.Path.{_≡_, refl, sym, ap, _∙_}
+use mathlib.Core.Bool.{true, _&&_, and-eq-true-iff}
+use mathlib.Core.List.{List, [], _∷_, _++_}
+use Prim.Native.Nat.{ℕ, _+_, _*_, _≤_}
+use native.Mathlib.Omega.{arith}
+use borrow.Author.Tests.{leb-true}
+use lib.Dec.{leb, eqb}
+use lib.ListN.{length, getD, take, drop, replicate, length-append}
+use lib.Seq.{take-at}
+use Rattle.datagram.specs.declared.Refusal.{Refusal}
+use Rattle.datagram.specs.Whole.{symbols, declared, whole}
+use Rattle.message.specs.declared.Message.{Message}
+use Rattle.message.specs.declared.Verdict.{Verdict}
+use Rattle.message.specs.declared.Verdict.the-variants as verdict
+use Rattle.message.specs.Range.{rangeOf}
+use Rattle.message.specs.Spelling.{bytesOf, symbolsOf}
+use Rattle.writer.specs.declared.Written.the-variants.{Wrote, Refused}
+use Rattle.writer.specs.Writing.{Outcome, outcome, writeOf}
+use Rattle.roundtrip.proofs.RoundTrip.{round-trip}
+use Rattle.named.proofs.Each.{each-length}
+use Rattle.seatalk.specs.Told.{refused}
+use Rattle.seatalk.specs.Write.{symbolBytes, symbolsBytes, writeTold}
+
+abbrev pub room : List ℕ
+room = replicate 18 0
+
+-- a whole datagram has at most 18 bytes
+at-most-18 : (s : List ℕ) → whole s ≡ true → length s ≤ 18
+unfolding whole
+at-most-18 s w =
+    let last = eqb (length s) (declared (getD s 1 0)) in
+    leb-true (length s) 18 (and-eq-true-iff (leb (length s) 18) last .0 (and-eq-true-iff (leb 3 (length s)) (leb (length s) 18 && last) .0 w .1) .0)
+
+as-many : (s : List ℕ) → length (symbols s) ≡ length s
+as-many [] = refl
+as-many (b ∷ bs) = refl
+
+module _ (m : Message) where
+  fits : length (bytesOf m) ≤ 18
+  fits = at-most-18 (bytesOf m) (round-trip .whole-datagram m)
+
+  pub size : length (symbolsBytes (symbolsOf m)) ≡ 2 * length (bytesOf m)
+  size = each-length symbolBytes 2 (λ s. refl) (symbolsOf m) ∙ ap (λ (n : ℕ). 2 * n) (as-many (bytesOf m))
+
+  stored : rangeOf m ≡ verdict.InRange → writeOf m room 0 ≡ outcome (Wrote (length (bytesOf m))) (symbolsOf m ++ drop (length (bytesOf m)) room)
+  stored i =
+      let z : 0 + length (bytesOf m) ≡ length (bytesOf m) = omega arith in
+      rw z at (round-trip .written m room 0 i (omega (arith, fits)))
+
+  refusing : (q : Refusal) → rangeOf m ≡ verdict.Refused q → writeOf m room 0 .answer ≡ Refused q
+  unfolding writeOf
+  refusing q i = rw i
+
+  -- the writer refused: not for room, so by the verdict
+  pub told-refused : (r : Refusal) (buffer result : List ℕ) → outcome (Refused r) buffer ≡ writeOf m room 0 → refused r result ≡ writeTold (rangeOf m) m result
+  told-refused r buffer result e = go (rangeOf m) refl
+    where
+      go : (v : Verdict) → rangeOf m ≡ v → refused r result ≡ writeTold v m result
+      go verdict.InRange i =
+          let other : Refused r ≡ Wrote (length (bytesOf m)) = ap (λ (o : Outcome). o .answer) (e ∙ stored i) in
+          let z : _≡_ {A = ℕ} 0 1 = cc in absurd (omega arith)
+      go (verdict.Refused q) i =
+          let same : Refused r ≡ Refused q = ap (λ (o : Outcome). o .answer) e ∙ refusing q i in
+          let equal : r ≡ q = cc in ap (λ (x : Refusal). refused x result) equal
+
+  -- the writer wrote n symbols
+  pub record Spelled (n : ℕ) (buffer : List ℕ) : Type 0 where
+    pub in-range : rangeOf m ≡ verdict.InRange
+    pub count : n ≡ length (bytesOf m)
+    pub few : n ≤ 18
+    pub held : n ≤ length buffer
+    pub front : take n buffer ≡ symbolsOf m
+
+  pub spelled : (n : ℕ) (buffer : List ℕ) → outcome (Wrote n) buffer ≡ writeOf m room 0 → Spelled n buffer
+  spelled n buffer e =
+      let i = round-trip .accepted m room 0 n (sym (ap (λ (o : Outcome). o .answer) e)) in
+      let told : Wrote n ≡ Wrote (length (bytesOf m)) = ap (λ (o : Outcome). o .answer) (e ∙ stored i) in
+      let count : n ≡ length (bytesOf m) = cc in
+      let left : buffer ≡ symbolsOf m ++ drop (length (bytesOf m)) room = ap (λ (o : Outcome). o .buffer) (e ∙ stored i) in
+      record {
+        in-range = i;
+        count = count;
+        few = omega (arith, fits);
+        held = rw (left, length-append) (omega (arith, as-many (bytesOf m)));
+        front = rw left (take-at (symbolsOf m) (drop (length (bytesOf m)) room) n (as-many (bytesOf m) ∙ sym count));
+      }

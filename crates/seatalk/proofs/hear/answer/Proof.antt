@@ -1,0 +1,75 @@
+-- `answer` stores both where the definition does, and else only answers the refusal.
+use borrow.Author.Tests.{le-leb, lt-leb}
+use mathlib.Core.Path.{_≡_, sym, _∙_}
+use lib.ListN.{length}
+use Rattle.seatalk.specs.declared.hear.Numbered.the-variants.{Number, Refused}
+use Rattle.seatalk.specs.Hear.{numberOf}
+use borrow.Author.Needs.{needs}
+use Rattle.named.proofs.Signs.{handed}
+use Rattle.seatalk.proofs.hear.answer.Statement.{statement}
+use Rattle.seatalk.proofs.hear.answer.Tie as tie
+
+number-of-requires : tie.Need-number-of-requires
+number-of-requires c κs = search needs
+
+enum-known-r : tie.Need-enum-known-r
+enum-known-r c = search needs
+
+code-of-requires : tie.Need-code-of-requires
+code-of-requires c κs = search needs
+
+enum-known-number : tie.Need-enum-known-number
+enum-known-number c = search needs
+
+code-of-requires-2 : tie.Need-code-of-requires-2
+code-of-requires-2 c κs = search needs
+
+returns : tie.Need-returns
+returns c =
+    let w = c .before .before .before .before .before in
+    let a = w .before .before .before .args in
+    let e : numberOf (a .h .answer) ≡ Number _ = sym (w .number-of .ensures) ∙ c .before .before .before .number .given .1 in
+    rw (handed (record { sfits = c .code-of2 .ok }) (c .code-of2 .ensures), e, lt-leb 20 (length (a .result .now)) (c .before .if1 .taken))
+
+put-state-requires : tie.Need-put-state-requires
+put-state-requires c κs = search needs
+
+put-result-requires : tie.Need-put-result-requires
+put-result-requires c κs = search needs
+
+returns-2 : tie.Need-returns-2
+returns-2 c =
+    let w = c .before .before .before .before in
+    let a = w .before .before .before .args in
+    let e : numberOf (a .h .answer) ≡ Refused _ = sym (w .number-of .ensures) ∙ c .before .before .r .given .1 in
+    rw (handed (record { sfits = c .code-of .ok }) (c .code-of .ensures), e)
+
+same-length : tie.Need-same-length
+same-length c = search needs
+
+same-length-2 : tie.Need-same-length-2
+same-length-2 c = search needs
+
+returns-3 : tie.Need-returns-3
+returns-3 c =
+    let w = c .before .before .before .before .before .before .before .before .before .before .before .before .before in
+    let a = w .before .before .before .args in
+    let e : numberOf (a .h .answer) ≡ Number _ = sym (w .number-of .ensures) ∙ c .before .before .before .before .before .before .before .before .before .before .before .number .given .1 in
+    rw (c .before .before .before .before .before .before .put-state .ensures, c .before .before .put-result .ensures, e, le-leb 20 (length (a .result .now)) (c .before .before .before .before .before .before .before .before .before .if1 .left))
+
+pub answer-spec : {M : Type 1} → statement M
+answer-spec =
+    tie.close
+    (tie.spec
+    number-of-requires
+    enum-known-r
+    code-of-requires
+    enum-known-number
+    code-of-requires-2
+    returns
+    put-state-requires
+    put-result-requires
+    returns-2
+    same-length
+    same-length-2
+    returns-3)

@@ -1,0 +1,53 @@
+-- `read` places what the reader gives; what is read is in range.
+use mathlib.Core.Path.{refl, sym, _∙_}
+use Rattle.roundtrip.proofs.RoundTrip.{round-trip}
+use Rattle.named.proofs.Signs.{handed}
+use Rattle.seatalk.specs.Read.{readCall}
+use borrow.Author.Needs.{needs}
+use Rattle.seatalk.proofs.read.read.Statement.{statement}
+use Rattle.seatalk.proofs.read.read.Tie as tie
+
+read-requires : tie.Need-read-requires
+read-requires c κs = search needs
+
+enum-known-r : tie.Need-enum-known-r
+enum-known-r c = search needs
+
+code-of-requires : tie.Need-code-of-requires
+code-of-requires c κs = search needs
+
+enum-known-m : tie.Need-enum-known-m
+enum-known-m c = search needs
+
+place-requires : tie.Need-place-requires
+place-requires c κs = round-trip .read-in-range _ _ (sym (c .before .before .before .before .read .ensures) ∙ c .before .before .m .given .1)
+
+returns : tie.Need-returns
+unfolding readCall
+returns c =
+    let r = c .before .before .before .before .read in
+    rw (handed (record { sfits = c .code-of .ok }) (c .code-of .ensures), ← r .ensures, c .before .before .r .given .1)
+
+same-length : tie.Need-same-length
+same-length c = search needs
+
+returns-2 : tie.Need-returns-2
+unfolding readCall
+returns-2 c =
+    let r = c .before .before .before .before .before .before .before .read in
+    let p = c .before .before .place in
+    rw (handed (record { sfits = p .ok }) refl, ← r .ensures, c .before .before .before .before .before .m .given .1)
+    (p .ensures)
+
+pub read-spec : {M : Type 1} → statement M
+read-spec =
+    tie.close
+    (tie.spec
+    read-requires
+    enum-known-r
+    code-of-requires
+    enum-known-m
+    place-requires
+    returns
+    same-length
+    returns-2)

@@ -1,0 +1,106 @@
+-- `store` has laid out the first i symbols after i turns.
+use mathlib.Core.Path.{_≡_, refl, sym, ap, _∙_}
+use mathlib.Core.List.{_++_}
+use Prim.Native.Nat.{_+_, _-_, _*_, _≤_}
+use native.Mathlib.Numerals.{add-one}
+use native.Mathlib.Omega.{arith}
+use lib.ListN.{length, length-set, take, drop}
+use Rattle.named.proofs.Each.{front-length, one-more}
+use Rattle.seatalk.specs.Write.{symbolBytes, symbolsBytes}
+use borrow.Author.Needs.{needs}
+use Rattle.seatalk.proofs.write.store.Statement.{statement}
+use Rattle.seatalk.proofs.write.store.Tie as tie
+
+abbrev Inv-loop : tie.InvT-loop
+Inv-loop symbols n result₀ i₀ result i = (i ≤ n) × (result ≡ symbolsBytes (take i symbols) ++ drop (2 * i) result₀)
+
+abbrev μ-loop : tie.MeasureT-loop
+μ-loop symbols n result₀ i₀ result i = n - i
+
+loop-holds : tie.Need-loop-holds Inv-loop μ-loop
+loop-holds c = (omega arith, refl)
+
+mul-s : tie.Need-mul-s Inv-loop μ-loop
+mul-s c = search needs
+
+shared-slice-read-s : tie.Need-shared-slice-read-s Inv-loop μ-loop
+shared-slice-read-s c = search needs
+
+cast-result : tie.Need-cast-result Inv-loop μ-loop
+cast-result c = search needs
+
+mul-result : tie.Need-mul-result Inv-loop μ-loop
+mul-result c = search needs
+
+slice-write-result : tie.Need-slice-write-result Inv-loop μ-loop
+slice-write-result c =
+    let w = c .before .before in
+    let a = w .before .args in
+    let same : length (w .loop .result) ≡ length (a .result .now) = ap length (w .loop .inv .1) ∙ front-length symbolBytes 2 (λ s. refl) (a .symbols .now) (w .loop .i) (a .result .now) (omega arith) (omega arith) in
+    omega arith
+
+cast-result-2 : tie.Need-cast-result-2 Inv-loop μ-loop
+cast-result-2 c = omega (arith, c .shared-slice-known .given (c .before .before .loop .i))
+
+mul-result-2 : tie.Need-mul-result-2 Inv-loop μ-loop
+mul-result-2 c = search needs
+
+add-result : tie.Need-add-result Inv-loop μ-loop
+add-result c = search needs
+
+slice-write-result-2 : tie.Need-slice-write-result-2 Inv-loop μ-loop
+slice-write-result-2 c =
+    let w = c .before .before in
+    let a = w .before .args in
+    let same : length (w .loop .result) ≡ length (a .result .now) = ap length (w .loop .inv .1) ∙ front-length symbolBytes 2 (λ s. refl) (a .symbols .now) (w .loop .i) (a .result .now) (omega arith) (omega arith) in
+    simp length-set (omega arith)
+
+add-i : tie.Need-add-i Inv-loop μ-loop
+add-i c = search needs
+
+loop-less : tie.Need-loop-less Inv-loop μ-loop
+loop-less c = search needs
+
+loop-again : tie.Need-loop-again Inv-loop μ-loop
+loop-again c =
+    let w = c .before .before in
+    let a = w .before .args in (
+      omega arith,
+      rw (w .loop .inv .1, add-one (2 * w .loop .i))
+          (one-more symbolBytes 2 (λ s. refl) (a .symbols .now) (w .loop .i) (a .result .now) 0 (omega arith) (omega arith)),
+    )
+
+same-length : tie.Need-same-length Inv-loop μ-loop
+same-length c =
+    let w = c .before in
+    let a = w .before .args in
+    let same : length (w .loop .result) ≡ length (a .result .now) = ap length (w .loop .inv .1) ∙ front-length symbolBytes 2 (λ s. refl) (a .symbols .now) (w .loop .i) (a .result .now) (omega arith) (omega arith) in
+    same
+
+returns : tie.Need-returns Inv-loop μ-loop
+returns c =
+    let w = c .before in
+    let all : w .loop .i ≡ w .before .args .n = omega arith in
+    rw all at (w .loop .inv .1)
+
+pub store-spec : {M : Type 1} → statement M
+store-spec =
+    tie.close
+    (tie.spec
+    Inv-loop
+    μ-loop
+    loop-holds
+    mul-s
+    shared-slice-read-s
+    cast-result
+    mul-result
+    slice-write-result
+    cast-result-2
+    mul-result-2
+    add-result
+    slice-write-result-2
+    add-i
+    loop-less
+    loop-again
+    same-length
+    returns)

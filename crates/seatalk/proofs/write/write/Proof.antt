@@ -1,0 +1,52 @@
+-- `write` places the message that is named.
+use mathlib.Core.Path.{refl}
+use Rattle.named.proofs.Signs.{handed}
+use Rattle.seatalk.specs.Write.{writeCall}
+use borrow.Author.Needs.{needs}
+use Rattle.seatalk.proofs.write.write.Statement.{statement}
+use Rattle.seatalk.proofs.write.write.Tie as tie
+
+name-requires : tie.Need-name-requires
+name-requires c κs = search needs
+
+enum-known-r : tie.Need-enum-known-r
+enum-known-r c = search needs
+
+code-of-requires : tie.Need-code-of-requires
+code-of-requires c κs = search needs
+
+enum-known-m : tie.Need-enum-known-m
+enum-known-m c = search needs
+
+place-requires : tie.Need-place-requires
+place-requires c κs = search needs
+
+returns : tie.Need-returns
+unfolding writeCall
+returns c =
+    let r = c .before .before .before .before .name in
+    rw (handed (record { sfits = c .code-of .ok }) (c .code-of .ensures), ← r .ensures, c .before .before .r .given .1)
+
+same-length : tie.Need-same-length
+same-length c = search needs
+
+returns-2 : tie.Need-returns-2
+unfolding writeCall
+returns-2 c =
+    let r = c .before .before .before .before .before .before .before .name in
+    let p = c .before .before .place in
+    rw (handed (record { sfits = p .ok }) refl, ← r .ensures, c .before .before .before .before .before .m .given .1)
+    (p .ensures)
+
+pub write-spec : {M : Type 1} → statement M
+write-spec =
+    tie.close
+    (tie.spec
+    name-requires
+    enum-known-r
+    code-of-requires
+    enum-known-m
+    place-requires
+    returns
+    same-length
+    returns-2)
