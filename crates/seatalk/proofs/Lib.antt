@@ -1,3 +1,4 @@
 pub mod Laid
 pub mod Fits
 pub mod Spelled
+pub mod Laws
