@@ -12,7 +12,9 @@ use message::Verdict;
 use message::range::out_of_range;
 use message::range::range_of;
 ghost use mathlib.Core.Path.{_≡_};
-ghost use Prim.Native.Nat.{_*_, _≤_};
+ghost use mathlib.Core.Bool.{cond};
+ghost use Prim.Native.Nat.{_-_, _*_, _≤_};
+ghost use lib.Dec.{eqb};
 ghost use lib.ListN.{length};
 ghost use Rattle.named.specs.Numbers.{numbersOf};
 ghost use Rattle.named.specs.Naming.{namedOf, namedAs, flagged};
@@ -50,16 +52,25 @@ fn name_as(found: Lookup, fields: &[u8]) -> Naming
     }
 }
 
+// How many bytes to read the fields from: all where no flag is bad, else those of the fields before flag k.
+fn reach(length: usize, k: u8) -> usize
+    ensures { λ r. ⌜ r ≡ cond (eqb k 0) length (4 * (k - 1)) ⌝ }
+{
+    if k == 0 { length } else { 4 * (k as usize - 1) }
+}
+
 // Flag k, counted from 1, is bad, or none where k is 0. The fields before it, taken alone, are judged first.
+// There is one call of `message_of`, so that the compiler puts its code here and the message into registers.
 fn flag_judged(kind: Kind, fields: &[u8], k: u8) -> Naming
     requires { ⌜ 4 * k ≤ length (now fields) ⌝ }
     ensures { λ r. ⌜ r ≡ flagged kind (numbersOf (now (fields .entry))) k ⌝ }
 {
+    let end = reach(fields.len(), k);
+    let m = kinds::message_of(kind, &fields[0..end]);
     if k == 0 {
-        return Naming::Named(kinds::message_of(kind, fields));
+        return Naming::Named(m);
     }
-    let before = 4 * (k as usize - 1);
-    match range_of(kinds::message_of(kind, &fields[0..before])) {
+    match range_of(m) {
         Verdict::InRange => Naming::Refused(out_of_range(k)),
         Verdict::Refused(r) => Naming::Refused(r),
     }

@@ -6,11 +6,24 @@ use named::Naming;
 use writer::Written;
 ghost use mathlib.Core.Path.{_≡_};
 ghost use mathlib.Core.List.{_++_};
-ghost use Prim.Native.Nat.{_*_, _≤_};
+ghost use Prim.Native.Nat.{_*_, _/_, _≤_};
 ghost use lib.ListN.{length, take, drop};
 ghost use Rattle.message.specs.Range.{rangeOf};
 ghost use Rattle.seatalk.specs.Told.{told};
 ghost use Rattle.seatalk.specs.Write.{writeTold, writeCall, symbolsBytes};
+
+// The high byte of a symbol. By cases, since the compiler would turn a plain copy of so few bytes into a call.
+fn high_byte(s: u16) -> u8
+    ensures { λ r. ⌜ r ≡ s / 256 ⌝ }
+{
+    if s < 256 {
+        return 0;
+    }
+    if s < 512 {
+        return 1;
+    }
+    (s / 256) as u8
+}
 
 // Stores the first n symbols, 2 bytes each.
 fn store(symbols: &[u16], n: usize, result: &mut [u8])
@@ -21,7 +34,7 @@ fn store(symbols: &[u16], n: usize, result: &mut [u8])
     while i < n {
         let s = symbols[i];
         result[2 * i] = (s % 256) as u8;
-        result[2 * i + 1] = (s / 256) as u8;
+        result[2 * i + 1] = high_byte(s);
         i += 1;
     }
 }

@@ -1,12 +1,13 @@
 -- `name_as` takes the lookup's case and tests the number of bytes as the definition does; a bad flag stands inside the fields.
 use borrow.Author.Tests.{eq-eqb, ne-eqb}
 use mathlib.Core.Path.{_∙_, sym, ap}
-use Prim.Native.Nat.{ℕ, _*_}
+use Prim.Native.Nat.{_*_}
 use native.Mathlib.Omega.{arith}
 use denote.Ref.{now}
+use lib.ListN.{length}
 use Rattle.message.specs.declared.Lookup.{Lookup}
 use Rattle.named.specs.Numbers.{numbersOf}
-use Rattle.named.specs.Naming.{flagsOf, flagged, namedAs}
+use Rattle.named.specs.Naming.{countOf, flagsOf, flagged, namedAs}
 use Rattle.named.proofs.Places.{four-each}
 use Rattle.named.proofs.Flags.{bad-inside}
 use borrow.Author.Needs.{needs}
@@ -46,14 +47,14 @@ returns-2 c =
     let f = c .before .before .before .before .before .found .given in
     c .flag-judged .ensures ∙ ap (flagged (f .0 .0 .kind) (numbersOf (now (a .fields)))) (c .before .bad-flag .ensures)
     ∙ sym (ap (λ (l : Lookup). namedAs l (now (a .fields))) (f .1)
-    ∙ rw (eq-eqb _ _ (c .before .before .if1 .taken ∙ ap (λ (n : ℕ). 4 * n) (c .before .before .before .count-of .ensures))))
+    ∙ rw (eq-eqb (length (now (a .fields))) (4 * countOf (f .0 .0 .kind)) (omega (arith, c .before .before .before .count-of .ensures))))
 
 returns-3 : tie.Need-returns-3
 returns-3 c =
     let a = c .before .before .before .before .before .before .args in
     let f = c .before .before .before .found .given in
     sym (ap (λ (l : Lookup). namedAs l (now (a .fields))) (f .1)
-    ∙ rw (ne-eqb _ _ (rw (c .before .count-of .ensures) at (c .if1 .left))))
+    ∙ rw (ne-eqb (length (now (a .fields))) (4 * countOf (f .0 .0 .kind)) (λ e. c .if1 .left (omega (arith, c .before .count-of .ensures)))))
 
 pub name-as-spec : {M : Type 1} → statement M
 name-as-spec =

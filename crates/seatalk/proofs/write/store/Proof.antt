@@ -35,12 +35,12 @@ mul-result c = search needs
 slice-write-result : tie.Need-slice-write-result Inv-loop μ-loop
 slice-write-result c =
     let w = c .before .before in
-    let a = w .before .args in
+    let a = w .before .before .before .args in
     let same : length (w .loop .result) ≡ length (a .result .now) = ap length (w .loop .inv .1) ∙ front-length symbolBytes 2 (λ s. refl) (a .symbols .now) (w .loop .i) (a .result .now) (omega arith) (omega arith) in
     omega arith
 
-cast-result-2 : tie.Need-cast-result-2 Inv-loop μ-loop
-cast-result-2 c = omega (arith, c .shared-slice-known .given (c .before .before .loop .i))
+high-byte-requires : tie.Need-high-byte-requires Inv-loop μ-loop
+high-byte-requires c κs = search needs
 
 mul-result-2 : tie.Need-mul-result-2 Inv-loop μ-loop
 mul-result-2 c = search needs
@@ -50,8 +50,8 @@ add-result c = search needs
 
 slice-write-result-2 : tie.Need-slice-write-result-2 Inv-loop μ-loop
 slice-write-result-2 c =
-    let w = c .before .before in
-    let a = w .before .args in
+    let w = c .before .before .before in
+    let a = w .before .before .before .args in
     let same : length (w .loop .result) ≡ length (a .result .now) = ap length (w .loop .inv .1) ∙ front-length symbolBytes 2 (λ s. refl) (a .symbols .now) (w .loop .i) (a .result .now) (omega arith) (omega arith) in
     simp length-set (omega arith)
 
@@ -63,24 +63,24 @@ loop-less c = search needs
 
 loop-again : tie.Need-loop-again Inv-loop μ-loop
 loop-again c =
-    let w = c .before .before in
-    let a = w .before .args in (
+    let w = c .before .before .before in
+    let a = w .before .before .before .args in (
       omega arith,
-      rw (w .loop .inv .1, add-one (2 * w .loop .i))
+      rw (w .loop .inv .1, add-one (2 * w .loop .i), c .high-byte .ensures)
           (one-more symbolBytes 2 (λ s. refl) (a .symbols .now) (w .loop .i) (a .result .now) 0 (omega arith) (omega arith)),
     )
 
 same-length : tie.Need-same-length Inv-loop μ-loop
 same-length c =
     let w = c .before in
-    let a = w .before .args in
+    let a = w .before .before .before .args in
     let same : length (w .loop .result) ≡ length (a .result .now) = ap length (w .loop .inv .1) ∙ front-length symbolBytes 2 (λ s. refl) (a .symbols .now) (w .loop .i) (a .result .now) (omega arith) (omega arith) in
     same
 
 returns : tie.Need-returns Inv-loop μ-loop
 returns c =
     let w = c .before in
-    let all : w .loop .i ≡ w .before .args .n = omega arith in
+    let all : w .loop .i ≡ w .before .before .before .args .n = omega arith in
     rw all at (w .loop .inv .1)
 
 pub store-spec : {M : Type 1} → statement M
@@ -95,7 +95,7 @@ store-spec =
     cast-result
     mul-result
     slice-write-result
-    cast-result-2
+    high-byte-requires
     mul-result-2
     add-result
     slice-write-result-2
