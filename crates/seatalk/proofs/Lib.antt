@@ -2,3 +2,4 @@ pub mod Laid
 pub mod Fits
 pub mod Spelled
 pub mod Laws
+pub mod Kept

@@ -1,10 +1,11 @@
 -- One symbol heard, with the listener's state in 18 lent bytes.
-use Prim.Native.Nat.{ℕ}
+use Prim.Native.Nat.{ℕ, _<_}
+use mathlib.Core.Path.{_≡_}
 use mathlib.Core.Bool.{cond}
 use mathlib.Core.List.{List, _∷_, _++_}
 use lib.Dec.{leb, ltb, eqb}
 use lib.IntN.{ℤ, pos}
-use lib.ListN.{length, getD, drop}
+use lib.ListN.{length, getD, set, drop}
 use Rattle.datagram.specs.declared.Refusal.{Refusal}
 use Rattle.datagram.specs.Refusals.{symbolAbove, notSound, noRoom}
 use Rattle.listener.specs.declared.Listener.{Listener}
@@ -35,6 +36,11 @@ stateOf l = l .held ∷ l .bytes
 
 abbrev pub listenerOf : List ℕ → Listener
 listenerOf state = record { bytes = drop 1 state; held = getD state 0 0 }
+
+-- the listener that answer 3 leaves: the lent state with one more byte and the number held
+pub record Longer (byte : ℕ) (l : Listener) (state : List ℕ) : Type 0 where
+  pub few : l .held < 18
+  pub bytes : stateOf l ≡ set (set state (l .held) byte) 0 (l .held)
 
 -- the answers in document 01's order
 abbrev pub numberOf : Answer → Numbered

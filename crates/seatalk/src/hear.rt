@@ -12,7 +12,8 @@ ghost use mathlib.Core.Path.{_≡_};
 ghost use mathlib.Core.List.{_++_};
 ghost use Prim.Native.Nat.{_≤_};
 ghost use lib.ListN.{length, drop};
-ghost use Rattle.seatalk.specs.Hear.{told, stateOf, listenerOf, numberOf, resultOf, answered, hearCall};
+ghost use Rattle.listener.specs.Step.{hearOf};
+ghost use Rattle.seatalk.specs.Hear.{told, stateOf, Longer, listenerOf, numberOf, resultOf, answered, hearCall};
 
 // An answer by its number in document 01's order, or the refusal.
 pub enum Numbered {
@@ -65,9 +66,23 @@ fn put_result(number: u8, h: Heard, result: &mut [u8])
     put(result, 2, &h.bytes);
 }
 
+// Stores the next state. One more byte held, answer 3, changes two bytes of it alone.
+fn put_next(number: u8, byte: u8, l: Listener, state: &mut [u8])
+    requires { ⌜ (length (now state) ≡ 18) × (number ≡ 3 → Longer byte l (now state)) ⌝ }
+    ensures { λ _. ⌜ now (state .exit) ≡ stateOf l ⌝ }
+{
+    let held = l.held;
+    if number == 3 {
+        state[held as usize] = byte;
+        state[0] = held;
+    } else {
+        put_state(l, state);
+    }
+}
+
 // Stores the next state and the result, where the listener refused nothing and there is room.
-fn answer(h: Heard, state: &mut [u8], result: &mut [u8]) -> i32
-    requires { ⌜ length (now state) ≡ 18 ⌝ }
+fn answer(h: Heard, symbol: u16, state: &mut [u8], result: &mut [u8]) -> i32
+    requires { ⌜ (length (now state) ≡ 18) × (h ≡ hearOf (listenerOf (now state)) symbol) ⌝ }
     ensures { λ r. ⌜ told r (now (state .exit)) (now (result .exit)) ≡ answered (numberOf (h .answer)) h (now (state .entry)) (now (result .entry)) ⌝ }
 {
     let answer = h.answer;
@@ -78,7 +93,7 @@ fn answer(h: Heard, state: &mut [u8], result: &mut [u8]) -> i32
                 return code_of(NO_ROOM);
             }
             let next = h.listener;
-            put_state(next, state);
+            put_next(number, (symbol % 256) as u8, next, state);
             put_result(number, h, result);
             20
         }
@@ -95,5 +110,5 @@ pub fn hear(state: &mut [u8], symbol: u32, result: &mut [u8]) -> i32
         return code_of(NOT_SOUND);
     }
     let h = listener::hear(listener_of(state), symbol as u16);
-    answer(h, state, result)
+    answer(h, symbol as u16, state, result)
 }

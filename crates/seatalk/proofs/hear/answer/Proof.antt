@@ -6,6 +6,7 @@ use Rattle.seatalk.specs.declared.hear.Numbered.the-variants.{Number, Re
 use Rattle.seatalk.specs.Hear.{numberOf}
 use borrow.Author.Needs.{needs}
 use Rattle.named.proofs.Signs.{handed}
+use Rattle.seatalk.proofs.Kept.{one-longer}
 use Rattle.seatalk.proofs.hear.answer.Statement.{statement}
 use Rattle.seatalk.proofs.hear.answer.Tie as tie
 
@@ -31,8 +32,15 @@ returns c =
     let e : numberOf (a .h .answer) ≡ Number _ = sym (w .number-of .ensures) ∙ c .before .before .before .number .given .1 in
     rw (handed (record { sfits = c .code-of2 .ok }) (c .code-of2 .ensures), e, lt-leb 20 (length (a .result .now)) (c .before .if1 .taken))
 
-put-state-requires : tie.Need-put-state-requires
-put-state-requires c κs = search needs
+cast-put-next : tie.Need-cast-put-next
+cast-put-next c = search needs
+
+put-next-requires : tie.Need-put-next-requires
+put-next-requires c κs =
+    let w = c .before .before .before .before .before .before in
+    let a = w .before .before .before .args in
+    let p = w .before .before .before .pre in
+    (p .0, λ e. rw (p .1) (one-longer (a .state .now) (a .symbol) (p .0) (rw (p .1, e) at (sym (w .number-of .ensures) ∙ c .before .before .before .before .number .given .1))))
 
 put-result-requires : tie.Need-put-result-requires
 put-result-requires c κs = search needs
@@ -55,7 +63,7 @@ returns-3 c =
     let w = c .before .before .before .before .before .before .before .before .before .before .before .before .before in
     let a = w .before .before .before .args in
     let e : numberOf (a .h .answer) ≡ Number _ = sym (w .number-of .ensures) ∙ c .before .before .before .before .before .before .before .before .before .before .before .number .given .1 in
-    rw (c .before .before .before .before .before .before .put-state .ensures, c .before .before .put-result .ensures, e, le-leb 20 (length (a .result .now)) (c .before .before .before .before .before .before .before .before .before .if1 .left))
+    rw (c .before .before .before .before .before .before .put-next .ensures, c .before .before .put-result .ensures, e, le-leb 20 (length (a .result .now)) (c .before .before .before .before .before .before .before .before .before .if1 .left))
 
 pub answer-spec : {M : Type 1} → statement M
 answer-spec =
@@ -67,7 +75,8 @@ answer-spec =
     enum-known-number
     code-of-requires-2
     returns
-    put-state-requires
+    cast-put-next
+    put-next-requires
     put-result-requires
     returns-2
     same-length

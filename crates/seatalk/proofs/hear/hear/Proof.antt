@@ -34,8 +34,11 @@ cast-hear c = search needs
 hear-requires : tie.Need-hear-requires
 hear-requires c κs = search needs
 
+cast-answer : tie.Need-cast-answer
+cast-answer c = search needs
+
 answer-requires : tie.Need-answer-requires
-answer-requires c κs = search needs
+answer-requires c κs = (c .before .before .before .before .before .if2 .left, c .before .before .hear .ensures ∙ rw (c .before .before .before .listener-of .ensures))
 
 same-length : tie.Need-same-length
 same-length c = search needs
@@ -65,6 +68,7 @@ hear-spec =
     listener-of-requires
     cast-hear
     hear-requires
+    cast-answer
     answer-requires
     same-length
     same-length-2
