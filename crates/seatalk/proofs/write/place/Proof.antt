@@ -38,7 +38,8 @@ returns : tie.Need-returns
 returns c =
     let a = c .before .before .before .before .before .before .before .before .before .args in
     let k = spelled (a .m) _ _ (rw (c .before .before .before .n .given .1) at (c .before .before .before .before .before .before .write .ensures)) in
-    rw (handed (record { sfits = c .code-of2 .ok }) (c .code-of2 .ensures), k .in-range, size (a .m), ← k .count, lt-leb _ (length (a .result .now)) (c .before .if1 .taken))
+    let n = c .before .before .before .n .given .0 .0 in
+    rw (handed (record { sfits = c .code-of2 .ok }) (c .code-of2 .ensures), k .in-range, size (a .m), ← k .count, lt-leb (2 * n) (length (a .result .now)) (omega arith))
 
 slice-aggregate-store : tie.Need-slice-aggregate-store
 slice-aggregate-store c = search needs
@@ -68,7 +69,7 @@ returns-3 c =
     let a = c .before .before .before .before .before .before .before .before .before .before .before .before .before .args in
     let k = spelled (a .m) _ _ (rw (c .before .before .before .before .before .before .before .n .given .1) at (c .before .before .before .before .before .before .before .before .before .before .write .ensures)) in
     let n = c .before .before .before .before .before .before .before .n .given .0 .0 in
-    rw (k .in-range, size (a .m), ← k .count, le-leb _ (length (a .result .now)) (c .before .before .before .before .before .if1 .left), toZ-pos w32 (2 * n) (omega (arith, k .few)), c .before .before .store .ensures, k .front)
+    rw (k .in-range, size (a .m), ← k .count, le-leb (2 * n) (length (a .result .now)) (omega arith), toZ-pos w32 (2 * n) (omega (arith, k .few)), c .before .before .store .ensures, k .front)
 
 pub place-spec : {M : Type 1} → statement M
 place-spec =
