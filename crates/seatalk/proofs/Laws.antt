@@ -24,9 +24,9 @@ use Rattle.message.specs.Spelling.{bytesOf}
 use Rattle.message.specs.Table.{findOf}
 use Rattle.named.specs.declared.Naming.the-variants.{Named}
 use Rattle.named.specs.Numbers.{AllFit, fourBytes, fieldBytes, fieldsBytes, numbersOf}
-use Rattle.named.specs.Naming.{countOf, flagsOf, messageOf, badFlag, flagged, namedAs, namedOf}
+use Rattle.named.specs.Naming.{countOf, flagsOf, messageOf, badFlag, namedAs, namedOf}
 use Rattle.named.proofs.Each.{each-length}
-use Rattle.roundtrip.proofs.Rows.{rowOf, finds}
+use Rattle.roundtrip.proofs.Rows.{finds}
 use Rattle.seatalk.proofs.Fits.{fields-fit}
 
 -- a number's low byte and the rest of it

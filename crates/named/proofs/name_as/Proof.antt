@@ -14,7 +14,6 @@ use borrow.Author.Needs.{needs}
 use Rattle.named.proofs.name_as.Statement.{statement}
 use Rattle.named.proofs.name_as.Tie as tie
 
--- /work/a/target/rlib/datagram.rlib/interface/lang/src/lib.rt:5:39
 enum-told : tie.Need-enum-told
 enum-told c = search needs
 

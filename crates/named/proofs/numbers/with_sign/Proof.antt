@@ -1,13 +1,13 @@
 -- `with_sign` subtracts 2^32 from 2^31 on, as two's complement does; in 64 bits nothing overflows.
-use mathlib.Core.Path.{_≡_, _∙_, ap}
+use mathlib.Core.Path.{_≡_}
 use Prim.Native.Nat.{ℕ, _≤_, _<_}
 use native.Mathlib.Omega.{arith}
 use borrow.Author.Tests.{lt-ltb, le-ltb}
-use lib.IntN.{ℤ, pos, _-ℤ_}
+use lib.IntN.{pos, _-ℤ_}
 use mir.Syntax.{w32, w64}
-use mir.Val.{toZ, ofZ, SFits}
+use mir.Val.{toZ}
 use mir.ValLaws.{toZ-pos, toZ-ofZ, toZ-fits}
-use Rattle.number.proofs.Signed.{diff-small, wide}
+use Rattle.number.proofs.Signed.{wide}
 use borrow.Author.Needs.{needs}
 use Rattle.named.proofs.numbers.with_sign.Statement.{statement}
 use Rattle.named.proofs.numbers.with_sign.Tie as tie

@@ -1,5 +1,5 @@
 -- `hear` makes the definition's tests in the definition's order, and answers what the listener gives.
-use borrow.Author.Tests.{lt-ltb, le-ltb, eq-eqb, ne-eqb}
+use borrow.Author.Tests.{lt-ltb, le-ltb, ne-eqb}
 use mathlib.Core.Path.{_≡_, refl, _∙_}
 use lib.ListN.{length}
 use Rattle.listener.specs.Step.{hearOf}
