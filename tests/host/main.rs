@@ -69,6 +69,7 @@ fn all() -> bool {
     }
     calls += c.calls;
     faults += c.faults;
+    println!("compared: against unreadable pages, where a segmentation fault is a touch outside a buffer:");
     for (name, place) in [("end", Place::FencedEnd), ("start", Place::FencedStart)] {
         let mut c = in_place(LINKED, place, PATIENCE);
         let stopped = sections(&mut c, FENCED, |_, _| ()).is_err() || reference::examples(&mut c).is_err();
