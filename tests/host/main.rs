@@ -60,7 +60,9 @@ fn all() -> bool {
         faults += 1;
     }
     let (handed, read, written) = (c.seen.handed(), c.seen.read(), c.seen.written());
-    println!("compared: {handed} datagrams handed out, {read} messages read, {written} written");
+    let symbols = FULL.symbols;
+    println!("compared: the random bus has {symbols} symbols; of all sections {handed} datagrams were handed out,");
+    println!("compared: {read} messages read and {written} written");
     if !stopped {
         let before = c.calls;
         if let Ok(examples) = reference::examples(&mut c) {
