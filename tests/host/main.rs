@@ -55,15 +55,15 @@ fn all() -> bool {
     let mut calls = 0;
     let mut faults = 0;
     let stopped = sections(&mut c, FULL, |name, count| println!("compared: {count:>9} calls: {name}")).is_err();
-    for missing in c.seen.missing() {
-        println!("compared: nothing was compared of: {missing}");
-        faults += 1;
-    }
-    let (handed, read, written) = (c.seen.handed(), c.seen.read(), c.seen.written());
-    let symbols = FULL.symbols;
-    println!("compared: the random bus has {symbols} symbols; of all sections {handed} datagrams were handed out,");
-    println!("compared: {read} messages read and {written} written");
     if !stopped {
+        for missing in c.seen.missing() {
+            println!("compared: nothing was compared of: {missing}");
+            faults += 1;
+        }
+        let (handed, read, written) = (c.seen.handed(), c.seen.read(), c.seen.written());
+        let symbols = FULL.symbols;
+        println!("compared: the random bus has {symbols} symbols; of all sections {handed} datagrams were handed out,");
+        println!("compared: {read} messages read and {written} written");
         let before = c.calls;
         if let Ok(examples) = reference::examples(&mut c) {
             println!("compared: {:>9} calls: {examples} worked examples", c.calls - before);
@@ -77,7 +77,7 @@ fn all() -> bool {
         let stopped = sections(&mut c, FENCED, |_, _| ()).is_err() || reference::examples(&mut c).is_err();
         println!("compared: {:>9} calls: buffers with their {name} against an unreadable page", c.calls);
         calls += c.calls;
-        faults += c.faults + usize::from(stopped && c.faults == 0) + c.seen.missing().len();
+        faults += c.faults + if stopped { 0 } else { c.seen.missing().len() };
     }
     println!("compared: {calls} calls, {faults} faults");
     faults == 0
