@@ -1,6 +1,6 @@
 // One symbol heard, with the listener's state in lent bytes.
-use crate::bytes::code_of;
-use crate::bytes::put;
+use crate::code_of;
+use crate::put;
 use datagram::NO_ROOM;
 use datagram::NOT_SOUND;
 use datagram::Refusal;

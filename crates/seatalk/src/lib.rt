@@ -1,11 +1,15 @@
 // The C boundary: listener, reader and writer on plain numbers and byte slices.
-mod bytes;
 mod hear;
 mod read;
 mod write;
 
+use datagram::Refusal;
 ghost use mathlib.Core.Path.{_≡_};
-ghost use Rattle.seatalk.specs.Told.{told};
+ghost use Prim.Native.Nat.{_+_, _≤_};
+ghost use lib.ListN.{length};
+ghost use lib.Seq.{paste, sets};
+ghost use Rattle.named.specs.Numbers.{wordBytes};
+ghost use Rattle.seatalk.specs.Told.{told, codeOf};
 ghost use Rattle.seatalk.specs.Hear as heard;
 ghost use Rattle.seatalk.specs.Read.{readCall};
 ghost use Rattle.seatalk.specs.Write.{writeCall};
@@ -32,4 +36,35 @@ pub extern "C" fn seatalk_write(command: u32, fields: &[u8], result: &mut [u8]) 
     ensures { λ r. ⌜ told r (now (result .exit)) ≡ writeCall command (now (fields .entry)) (now (result .entry)) ⌝ }
 {
     write::write(command, fields, result)
+}
+
+// Minus the number and 256 times the place.
+fn code_of(r: Refusal) -> i32
+    ensures { λ c. ⌜ c ≡ codeOf r ⌝ }
+{
+    let n = r.number as u32 + 256 * ((r.place % 8388608) as u32);
+    0 - n as i32
+}
+
+// Puts these bytes from a place on.
+fn put(lent: &mut [u8], at: usize, bytes: &[u8])
+    requires { ⌜ at + length (now bytes) ≤ length (now lent) ⌝ }
+    ensures { λ _. ⌜ now (lent .exit) ≡ paste (now (lent .entry)) at (now (bytes .entry)) (length (now (bytes .entry))) ⌝ }
+{
+    let mut i = 0;
+    while i < bytes.len() {
+        lent[at + i] = bytes[i];
+        i += 1;
+    }
+}
+
+// Puts the four bytes of 32 bits from a place on, low byte first.
+fn put_word(lent: &mut [u8], at: usize, n: u32)
+    requires { ⌜ at + 4 ≤ length (now lent) ⌝ }
+    ensures { λ _. ⌜ now (lent .exit) ≡ sets (now (lent .entry)) at (wordBytes n) ⌝ }
+{
+    lent[at] = (n % 256) as u8;
+    lent[at + 1] = (n / 256 % 256) as u8;
+    lent[at + 2] = (n / 65536 % 256) as u8;
+    lent[at + 3] = (n / 16777216 % 256) as u8;
 }

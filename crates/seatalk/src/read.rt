@@ -1,6 +1,6 @@
 // Any bytes read as the fields of a message.
-use crate::bytes::code_of;
-use crate::bytes::put_word;
+use crate::code_of;
+use crate::put_word;
 use datagram::NO_ROOM;
 use fields::Fields;
 use message::Message;

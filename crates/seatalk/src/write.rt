@@ -1,5 +1,5 @@
 // A command and its fields written as the symbols of a message.
-use crate::bytes::code_of;
+use crate::code_of;
 use datagram::NO_ROOM;
 use message::Message;
 use named::Naming;

@@ -4,8 +4,8 @@ use Prim.Native.Nat.{suc, _+_}
 use native.Mathlib.Omega.{arith}
 use lib.ListN.{length-set}
 use borrow.Author.Needs.{needs}
-use Rattle.seatalk.proofs.bytes.put_word.Statement.{statement}
-use Rattle.seatalk.proofs.bytes.put_word.Tie as tie
+use Rattle.seatalk.proofs.put_word.Statement.{statement}
+use Rattle.seatalk.proofs.put_word.Tie as tie
 
 cast-lent : tie.Need-cast-lent
 cast-lent c = search needs

@@ -9,8 +9,8 @@ use mir.ValLaws.{toZ-pos, toZ-ofZ}
 use Rattle.number.proofs.Signed.{diff-small}
 use Rattle.seatalk.specs.Told.{codeOf}
 use borrow.Author.Needs.{needs}
-use Rattle.seatalk.proofs.bytes.code_of.Statement.{statement}
-use Rattle.seatalk.proofs.bytes.code_of.Tie as tie
+use Rattle.seatalk.proofs.code_of.Statement.{statement}
+use Rattle.seatalk.proofs.code_of.Tie as tie
 
 -- the negative as the machine makes it
 module _ (n : ℕ) (h : n < 2147483648) where

@@ -6,8 +6,8 @@ use native.Mathlib.Omega.{arith}
 use lib.ListN.{length}
 use lib.Seq.{paste, paste-zero, paste-suc, length-paste}
 use borrow.Author.Needs.{needs}
-use Rattle.seatalk.proofs.bytes.put.Statement.{statement}
-use Rattle.seatalk.proofs.bytes.put.Tie as tie
+use Rattle.seatalk.proofs.put.Statement.{statement}
+use Rattle.seatalk.proofs.put.Tie as tie
 
 abbrev Inv-loop : tie.InvT-loop
 Inv-loop lent₀ at bytes i₀ lent i = (i ≤ length bytes) × (lent ≡ paste lent₀ at bytes i)
