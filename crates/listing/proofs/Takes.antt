@@ -1,11 +1,11 @@
--- What is taken next: a datagram ahead, one record, or none.
+-- What one record gives: the line of the datagram that it completes, nothing, or the end; and a datagram ahead is whole.
 use mathlib.Core.Path.{_≡_, refl, sym, ap, _∙_}
-use mathlib.Core.Bool.{Bool, true, false, cond}
+use mathlib.Core.Bool.{Bool, true, false, cond, false≢true}
 use mathlib.Core.List.{List, []}
-use Prim.Native.Nat.{ℕ, _+_, _-_, _*_, _≤_, _<_}
+use Prim.Native.Nat.{ℕ, _≤_, _<_}
 use native.Mathlib.Omega.{arith}
-use borrow.Author.Tests.{eq-eqb, ne-eqb}
-use lib.Dec.{eqb}
+use borrow.Author.Tests.{eq-eqb, ne-eqb, eqb-false, ltb-true}
+use lib.Dec.{eqb, ltb}
 use lib.ListN.{length, getD, take}
 use lib.Seq.{getD-take, length-take-le}
 use Rattle.datagram.specs.Whole.{declared, whole}
@@ -15,18 +15,20 @@ use Rattle.listener.specs.Step.{hearOf}
 use Rattle.listener.specs.declared.Listener.{Listener}
 use Rattle.listener.specs.declared.Heard.{Heard}
 use Rattle.recording.specs.declared.Record.the-variants as record-case
-use Rattle.recording.specs.Record.{recordOf, timeAt}
+use Rattle.recording.specs.Record.{recordOf}
 use Rattle.listing.specs.declared.Progress.{Progress}
 use Rattle.listing.specs.declared.Stop.{Stop}
 use Rattle.listing.specs.declared.Stop.the-variants.{Running}
 use Rattle.listing.specs.declared.block.Taken.{Taken}
+use Rattle.listing.specs.Text.{Put}
 use Rattle.listing.specs.Line.{lineOf}
-use Rattle.listing.specs.Walk.{walk, walkFrom, behind, advanced, entryOf, counted, isHanded}
-use Rattle.listing.specs.Taken.{Ahead, Took}
+use Rattle.listing.specs.Walk.{walk, walkFrom, advanced, isHanded}
+use Rattle.listing.specs.Taken.{Ahead, Took, heardText}
 use Rattle.listing.proofs.Handed.{hands, declared-whole}
 use Rattle.listing.proofs.Spaced.{take-most}
 use Rattle.listing.proofs.Walks.{walk-heard}
-use Rattle.listing.proofs.Ahead.{walk-ahead}
+use Rattle.listing.proofs.Put.{put-nothing}
+use Rattle.listing.proofs.Short.{line-short}
 
 -- what was handed out has bytes, and what was not has none
 module _ (time symbol : ℕ) (l : Listener) where
@@ -48,52 +50,53 @@ module _ (time symbol : ℕ) (l : Listener) where
   is-handed true e p = e
   is-handed false e p = absurd (omega (arith, hands l symbol .1 e))
 
-module _ (s : List ℕ) (at left : ℕ) (p : Progress) (some : 0 < left) where
-  pub took-ahead : (n : ℕ) (bytes : List ℕ) (t : Taken) → length bytes ≡ 18 → n ≤ left → Ahead s at n bytes → p .listener ≡ holding []
-      → t ≡ record {
-        progress = record { listener = p .listener; handed = counted true (p .handed); cancelled = p .cancelled; stray = p .stray };
-        used = n;
-        bytes = bytes;
-        count = n;
-        time = timeAt s (at + 8 * (n - 1));
-        stop = Running;
-      }
-      → Took s at left p t
-  took-ahead n bytes t long fits a idle e =
-      let size : length (take n bytes) ≡ n = length-take-le n bytes (omega (arith, a .reaches)) in
-      let second : getD (take n bytes) 1 0 ≡ getD bytes 1 0 = getD-take n bytes 1 0 (omega (arith, a .reaches)) in
-      let full : length (take n bytes) ≡ declared (getD (take n bytes) 1 0) = size ∙ a .reaches ∙ ap declared (sym second) in
-      rw e
-      (record {
-        ends = λ z. absurd (omega (arith, a .reaches));
-        goes = λ used room roomy. rw (ne-eqb n 0 (λ z. omega (arith, a .reaches))) (walk-ahead s at n bytes long a p left room fits roomy idle);
-        fits = fits;
-        complete = λ count. (omega (arith, a .reaches), declared-whole (take n bytes) full);
-        idle = λ count. idle;
-      })
+-- what is handed out is whole, and leaves nothing held
+pub heard-whole : (time symbol : ℕ) (l : Listener) → 0 < hearOf l symbol .count
+    → (hearOf l symbol .count ≤ 18) × (whole (take (hearOf l symbol .count) (hearOf l symbol .bytes)) ≡ true) × (hearOf l symbol .listener ≡ holding [])
+heard-whole time symbol l some = hands l symbol .0 (is-handed time symbol l _ refl some)
 
-  pub took-one : (time symbol : ℕ) (t : Taken) → recordOf s at ≡ record-case.Heard time symbol
-      → t ≡ record { progress = advanced p (hearOf (p .listener) symbol); used = 1; bytes = hearOf (p .listener) symbol .bytes; count = hearOf (p .listener) symbol .count; time = time; stop = Running }
-      → Took s at left p t
-  took-one time symbol t heard e =
+-- its line fits in the room for one
+heard-short : (time symbol : ℕ) (l : Listener) → length (heardText time (hearOf l symbol)) ≤ 512
+heard-short time symbol l = go (eqb (hearOf l symbol .count) 0) refl
+  where
+    go : (b : Bool) → eqb (hearOf l symbol .count) 0 ≡ b → length (cond b [] (lineOf time (take (hearOf l symbol .count) (hearOf l symbol .bytes)))) ≤ 512
+    go true e = omega arith
+    go false e =
+        line-short time (take (hearOf l symbol .count) (hearOf l symbol .bytes)) (omega (arith, take-most (hearOf l symbol .count) (hearOf l symbol .bytes), heard-whole time symbol l (omega (arith, eqb-false (hearOf l symbol .count) 0 e)) .0))
+
+-- a datagram ahead is whole
+pub ahead-whole : {s : List ℕ} {at n : ℕ} {bytes : List ℕ} → length bytes ≡ 18 → Ahead s at n bytes → (n ≤ 18) × (whole (take n bytes) ≡ true)
+ahead-whole {s} {at} {n} {bytes} long a =
+    let size : length (take n bytes) ≡ n = length-take-le n bytes (omega (arith, a .reaches)) in
+    let second : getD (take n bytes) 1 0 ≡ getD bytes 1 0 = getD-take n bytes 1 0 (omega (arith, a .reaches)) in
+    (omega (arith, a .reaches), declared-whole (take n bytes) (size ∙ a .reaches ∙ ap declared (sym second)))
+
+module _ {s : List ℕ} {at : ℕ} {p : Progress} {before : List ℕ} {place : ℕ} {after : List ℕ} where
+  pub took-one : (time symbol : ℕ) (t : Taken) (place′ : ℕ) → recordOf s at ≡ record-case.Heard time symbol
+      → Put before place (heardText time (hearOf (p .listener) symbol)) after place′
+      → t ≡ record { progress = advanced p (hearOf (p .listener) symbol); used = 1; place = place′; idle = ltb 0 (hearOf (p .listener) symbol .count); stop = Running }
+      → Took s at p before place after t
+  took-one time symbol t place′ heard put e =
       let l = p .listener in
       rw e
       (record {
+        text = heardText time (hearOf l symbol);
+        put = put;
+        short = heard-short time symbol l;
         ends = λ z. absurd (omega arith);
-        goes = λ used room roomy. walk-heard s at p left room some time symbol roomy heard ∙ rw (entry-taken time symbol l _ refl);
-        fits = some;
-        complete = λ count. (hands l symbol .0 (is-handed time symbol l _ refl count) .0, hands l symbol .0 (is-handed time symbol l _ refl count) .1);
-        idle = λ count. hands l symbol .0 (is-handed time symbol l _ refl count) .2;
+        goes = λ used left room some roomy. walk-heard s at p left room some time symbol roomy heard ∙ rw (entry-taken time symbol l _ refl);
+        idle = λ count. heard-whole time symbol l (ltb-true _ _ count) .2;
       })
 
-  pub took-none : (stop : Stop) (bytes : List ℕ) (t : Taken) → ((room : ℕ) → 512 ≤ room → walkFrom left s at p room ≡ walk [] p at stop)
-      → t ≡ record { progress = p; used = 0; bytes = bytes; count = 0; time = 0; stop = stop } → Took s at left p t
-  took-none stop bytes t ends e =
+  pub took-none : (stop : Stop) (t : Taken) → ((left room : ℕ) → 0 < left → 512 ≤ room → walkFrom left s at p room ≡ walk [] p at stop)
+      → after ≡ before → t ≡ record { progress = p; used = 0; place = place; idle = false; stop = stop } → Took s at p before place after t
+  took-none stop t ends same e =
       rw e
       (record {
-        ends = λ z. ends;
+        text = [];
+        put = rw same (put-nothing before place);
+        short = omega arith;
+        ends = λ z. (refl, ends);
         goes = λ used. absurd (omega arith);
-        fits = omega arith;
-        complete = λ count. absurd (omega arith);
-        idle = λ count. absurd (omega arith);
+        idle = λ count. absurd (false≢true count);
       })

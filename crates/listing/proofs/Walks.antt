@@ -1,13 +1,11 @@
 -- One record of a walk, and what holds while a block is being listed.
-use mathlib.Core.Path.{_≡_, refl, ap, _∙_}
-use mathlib.Core.Bool.{Bool, true, false, cond}
+use mathlib.Core.Path.{_≡_, ap, _∙_}
 use mathlib.Core.List.{List, [], _++_, append-assoc, append-nil}
 use Prim.Native.Nat.{ℕ, suc, _+_, _-_, _*_, _/_, _≤_, _<_}
 use native.Mathlib.Nat.{sub-zero, zero-add}
 use native.Mathlib.Omega.{arith}
-use borrow.Author.Tests.{le-leb, lt-leb, eqb-false}
-use lib.Dec.{eqb}
-use lib.ListN.{length, take}
+use borrow.Author.Tests.{le-leb, lt-leb}
+use lib.ListN.{length}
 use Rattle.datagram.specs.declared.Refusal.{Refusal}
 use Rattle.listener.specs.Step.{hearOf}
 use Rattle.recording.specs.declared.Record.the-variants as record-case
@@ -17,22 +15,8 @@ use Rattle.listing.specs.declared.Progress.{Progress}
 use Rattle.listing.specs.declared.Stop.{Stop}
 use Rattle.listing.specs.declared.Stop.the-variants.{Running, Stopped}
 use Rattle.listing.specs.Text.{Put}
-use Rattle.listing.specs.Line.{lineOf}
 use Rattle.listing.specs.Walk.{walk, behind, walkFrom, advanced, entryOf, Block}
-use Rattle.listing.specs.declared.block.Taken.{Taken}
-use Rattle.listing.specs.Taken.{Took, takenText}
 use Rattle.listing.proofs.Put.{put-then, put-nothing}
-use Rattle.listing.proofs.Spaced.{take-most}
-use Rattle.listing.proofs.Short.{line-short}
-
--- a line fits in the room for one
-taken-short : {s : List ℕ} {at left : ℕ} {p : Progress} (t : Taken) → Took s at left p t → length (takenText t) ≤ 512
-taken-short t k = go (eqb (t .count) 0) refl
-  where
-    go : (b : Bool) → eqb (t .count) 0 ≡ b → length (cond b [] (lineOf (t .time) (take (t .count) (t .bytes)))) ≤ 512
-    go true e = omega arith
-    go false e =
-        line-short (t .time) (take (t .count) (t .bytes)) (omega (arith, take-most (t .count) (t .bytes), k .complete (omega (arith, eqb-false (t .count) 0 e)) .0))
 
 module _ (s : List ℕ) (at : ℕ) (p : Progress) (n room : ℕ) (some : 0 < n) where
   more : n ≡ suc (n - 1)
@@ -81,18 +65,30 @@ module _ {s before out : List ℕ} {begin p : Progress} {n left at place : ℕ} 
         stored = g .put .stored;
       })
 
-  pub took : (t : Taken) (later : List ℕ) (place′ : ℕ) → Took s at left p t → 0 < t .used → 512 ≤ length before - place
-      → Put out place (takenText t) later place′
-      → Going s before begin n later (t .progress) (left - t .used) (at + 8 * t .used) place′
-  took t later place′ k some roomy put =
-      let text = takenText t in
+  -- nothing more was put
+  pub stayed : (later : List ℕ) (place′ : ℕ) → Put out place [] later place′ → Going s before begin n later p left at place
+  stayed later place′ put =
+      record {
+        text = g .text;
+        put = record { stored = put .stored ∙ g .put .stored; moved = g .put .moved };
+        rest = g .rest;
+        within = g .within;
+        fits = g .fits;
+      }
+
+  -- so many records more, behind their text
+  pub went : (used : ℕ) (text : List ℕ) (q : Progress) (later : List ℕ) (place′ : ℕ)
+      → walkFrom left s at p (length before - place) ≡ behind text (walkFrom (left - used) s (at + 8 * used) q (length before - place - length text))
+      → used ≤ left → length text ≤ 512 → 512 ≤ length before - place → Put out place text later place′
+      → Going s before begin n later q (left - used) (at + 8 * used) place′
+  went used text q later place′ e fits short roomy put =
       let room : length before - place - length text ≡ length before - place′ = omega (arith, put .moved) in
-      let w : walkFrom left s at p (length before - place) ≡ behind text (walkFrom (left - t .used) s (at + 8 * t .used) (t .progress) (length before - place′)) =
-      k .goes some (length before - place) roomy ∙ rw room in
+      let w : walkFrom left s at p (length before - place) ≡ behind text (walkFrom (left - used) s (at + 8 * used) q (length before - place′)) =
+      e ∙ rw room in
       record {
         text = g .text ++ text;
         put = put-then (g .put) put;
         rest = g .rest ∙ ap (behind (g .text)) w ∙ rw append-assoc;
-        within = omega (arith, g .within, k .fits);
-        fits = omega (arith, put .moved, taken-short t k, g .fits);
+        within = omega (arith, g .within);
+        fits = omega (arith, put .moved, g .fits);
       }

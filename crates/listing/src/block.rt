@@ -11,32 +11,24 @@ use listener::Listener;
 use number::word_of;
 use recording::Record;
 ghost use mathlib.Core.Path.{_≡_};
-ghost use Prim.Native.Nat.{_+_, _*_, _≤_, _<_};
-ghost use mathlib.Core.Bool.{true};
-ghost use lib.ListN.{length, take, replicate};
-ghost use mathlib.Core.List.{[]};
+ghost use Prim.Native.Nat.{_+_, _-_, _*_, _≤_, _<_};
+ghost use mathlib.Core.Bool.{true, false};
+ghost use lib.ListN.{length, take};
 ghost use Rattle.datagram.specs.Whole.{whole};
-ghost use Rattle.listener.specs.State.{holding};
 ghost use Rattle.recording.specs.Record.{recordOf, timeAt, byteOf};
 ghost use Rattle.listing.specs.Text.{Put, digitPairs};
+ghost use Rattle.listing.specs.Line.{lineOf};
 ghost use Rattle.listing.specs.Walk.{Block, walkFrom, recordsIn, advanced, counted, begun, cutOff, placedFrom};
-ghost use Rattle.listing.specs.Taken.{Took, Ahead, takenText};
+ghost use Rattle.listing.specs.Taken.{Took, Ahead, heardText};
 
-// What was taken of a recording: so many records, the progress after them, and the datagram that they completed, if any: its
-// bytes, their number and the time of its last symbol. No record is taken at the end, or where a record is refused.
+// What one record gave: the progress after it, the place after its text, and whether nothing is held now. No record is
+// used at the end, or where one is refused.
 struct Taken {
     progress: Progress,
     used: usize,
-    bytes: [u8; 18],
-    count: usize,
-    time: u32,
+    place: usize,
+    idle: bool,
     stop: Stop,
-}
-
-// The first `count` of `bytes` are a datagram; 0 is none.
-struct Gathered {
-    bytes: [u8; 18],
-    count: usize,
 }
 
 // Lists the whole records of a block, as long as the output has room for a line, and says how far it came.
@@ -44,6 +36,7 @@ pub fn list_block(progress: Progress, input: &[u8], out: &mut [u8]) -> Listed
     ensures { λ r. ⌜ Block (walkFrom (recordsIn (now (input .entry))) (now (input .entry)) 0 progress (length (now (out .entry)))) (now (out .entry)) (now (out .exit)) r ⌝ }
 {
     let pairs = digit_pairs();
+    let mut bytes = [0u8; 18];
     let mut p = progress;
     let mut idle = listener::is_empty(p.listener);
     let mut left = input.len() / 8;
@@ -53,69 +46,102 @@ pub fn list_block(progress: Progress, input: &[u8], out: &mut [u8]) -> Listed
         if out.len() - place < 512 {
             return listed(p, at, place, Stop::Running);
         }
-        let t = next(p, idle, input, at, left);
-        let used = t.used;
-        if used == 0 {
+        // A datagram that lies whole ahead leaves the listener as it is, which is then not copied.
+        let n = gather(idle, input, at, left, &mut bytes);
+        if 0 < n {
+            place = put_ahead(&pairs, out, place, input, at, n, &bytes);
+            p = handed_out(p);
+            at += 8 * n;
+            left -= n;
+            continue;
+        }
+        let t = list_record(&pairs, out, place, p, input, at);
+        if t.used == 0 {
             let stop = t.stop;
             return listed(p, at, place, stop);
         }
-        place = put_taken(&pairs, out, place, t);
-        idle = 0 < t.count;
+        place = t.place;
+        idle = t.idle;
         p = t.progress;
-        at += 8 * used;
-        left -= used;
+        at += 8;
+        left -= 1;
     }
     listed(p, at, place, Stop::Running)
 }
 
-// What is taken next: the records of a datagram that lies whole ahead of an idle listener, or else one record.
-fn next(p: Progress, idle: bool, input: &[u8], at: usize, left: usize) -> Taken
-    requires { ⌜ (idle ≡ true → p .listener ≡ holding []) × (0 < left) × (at + 8 * left ≤ length (now input)) ⌝ }
-    ensures { λ r. ⌜ Took (now (input .entry)) at left p r ⌝ }
+// Puts the line of the datagram in the n records from here on.
+fn put_ahead(
+    pairs: &[u8; 712],
+    out: &mut [u8],
+    place: usize,
+    input: &[u8],
+    at: usize,
+    n: usize,
+    bytes: &[u8],
+) -> usize
+    requires { ⌜ (now pairs ≡ digitPairs) × (place + 512 ≤ length (now out)) × (0 < n) × (at + 8 * n ≤ length (now input)) × (n ≤ length (now bytes)) × (whole (take n (now bytes)) ≡ true) ⌝ }
+    ensures { λ r. ⌜ Put (now (out .entry)) place (lineOf (timeAt (now (input .entry)) (at + 8 * (n - 1))) (take n (now (bytes .entry)))) (now (out .exit)) r ⌝ }
 {
-    if idle {
-        let g = gather(input, at, left);
-        let n = g.count;
-        if 0 < n {
-            let l = p.listener;
-            let handed = progressed(l, count(true, p.handed), p.cancelled, p.stray);
-            let bytes = g.bytes;
-            return took(handed, n, bytes, n, time_at(input, at + 8 * (n - 1)));
-        }
-    }
+    put_line(
+        pairs,
+        out,
+        place,
+        time_at(input, at + 8 * (n - 1)),
+        &bytes[0..n],
+    )
+}
+
+// One datagram more was handed out.
+fn handed_out(p: Progress) -> Progress
+    ensures { λ r. ⌜ r ≡ (record { listener = p .listener; handed = counted true (p .handed); cancelled = p .cancelled; stray = p .stray }) ⌝ }
+{
+    let l = p.listener;
+    progressed(l, count(true, p.handed), p.cancelled, p.stray)
+}
+
+// Hears the record at an offset, and puts the line of the datagram that it completes, if it does.
+fn list_record(
+    pairs: &[u8; 712],
+    out: &mut [u8],
+    place: usize,
+    p: Progress,
+    input: &[u8],
+    at: usize,
+) -> Taken
+    requires { ⌜ (now pairs ≡ digitPairs) × (place + 512 ≤ length (now out)) ⌝ }
+    ensures { λ r. ⌜ Took (now (input .entry)) at p (now (out .entry)) place (now (out .exit)) r ⌝ }
+{
     match recording::record_at(input, at) {
-        Record::End => stopped(p, Stop::Running),
-        Record::Refused(r) => stopped(p, Stop::Stopped(r)),
+        Record::End => stopped(p, place, Stop::Running),
+        Record::Refused(r) => stopped(p, place, Stop::Stopped(r)),
         Record::Heard { time, symbol } => {
             let h = listener::hear(p.listener, symbol);
-            let bytes = h.bytes;
-            took(advance(p, h), 1, bytes, h.count as usize, time)
+            let next = put_heard(pairs, out, place, time, h);
+            took(advance(p, h), next, 0 < h.count)
         }
     }
 }
 
-fn took(progress: Progress, used: usize, bytes: [u8; 18], count: usize, time: u32) -> Taken
-    ensures { λ r. ⌜ r ≡ (record { progress = progress; used = used; bytes = bytes; count = count; time = time; stop = Stop.Running }) ⌝ }
+fn took(progress: Progress, place: usize, idle: bool) -> Taken
+    ensures { λ r. ⌜ r ≡ (record { progress = progress; used = 1; place = place; idle = idle; stop = Stop.Running }) ⌝ }
 {
     Taken {
         progress: progress,
-        used: used,
-        bytes: bytes,
-        count: count,
-        time: time,
+        used: 1,
+        place: place,
+        idle: idle,
         stop: Stop::Running,
     }
 }
 
-fn stopped(progress: Progress, stop: Stop) -> Taken
-    ensures { λ r. ⌜ r ≡ (record { progress = progress; used = 0; bytes = replicate 18 0; count = 0; time = 0; stop = stop }) ⌝ }
+fn stopped(progress: Progress, place: usize, stop: Stop) -> Taken
+    ensures { λ r. ⌜ r ≡ (record { progress = progress; used = 0; place = place; idle = false; stop = stop }) ⌝ }
 {
     Taken {
         progress: progress,
         used: 0,
-        bytes: [0; 18],
-        count: 0,
-        time: 0,
+        place: place,
+        idle: false,
         stop: stop,
     }
 }
@@ -139,42 +165,36 @@ fn carries(input: &[u8], at: usize, command: u8) -> bool
     input[at + 7] == command
 }
 
-fn datagram_of(bytes: [u8; 18], count: usize) -> Gathered
-    ensures { λ r. ⌜ r ≡ (record { bytes = bytes; count = count }) ⌝ }
+// Stores the bytes of the datagram that lies whole in the records from here on and gives their number; 0 if there is none, or
+// the listener is not idle.
+fn gather(idle: bool, input: &[u8], at: usize, left: usize, bytes: &mut [u8]) -> usize
+    requires { ⌜ (at + 8 * left ≤ length (now input)) × (length (now bytes) ≡ 18) ⌝ }
+    ensures { λ r. ⌜ (0 < r → (idle ≡ true) × (r ≤ left) × Ahead (now (input .entry)) at r (now (bytes .exit))) ⌝ }
 {
-    Gathered {
-        bytes: bytes,
-        count: count,
+    if !idle {
+        return 0;
     }
-}
-
-// The datagram that lies whole in the records from here on, if there is one.
-fn gather(input: &[u8], at: usize, left: usize) -> Gathered
-    requires { ⌜ at + 8 * left ≤ length (now input) ⌝ }
-    ensures { λ r. ⌜ (0 < r .count → (r .count ≤ left) × Ahead (now (input .entry)) at (r .count) (r .bytes)) ⌝ }
-{
-    let mut bytes = [0u8; 18];
     if left < 3 {
-        return datagram_of(bytes, 0);
+        return 0;
     }
     let n = 3 + input[at + 14] as usize % 16;
     if left < n {
-        return datagram_of(bytes, 0);
+        return 0;
     }
     if !carries(input, at, 1) {
-        return datagram_of(bytes, 0);
+        return 0;
     }
     bytes[0] = input[at + 6];
     let mut i = 1;
     while i < n {
         let q = at + 8 * i;
         if !carries(input, q, 0) {
-            return datagram_of(bytes, 0);
+            return 0;
         }
         bytes[i] = input[q + 6];
         i += 1;
     }
-    datagram_of(bytes, n)
+    n
 }
 
 fn listed(progress: Progress, used: usize, written: usize, stop: Stop) -> Listed
@@ -229,17 +249,17 @@ fn progressed(listener: Listener, handed: u64, cancelled: u64, stray: u64) -> Pr
     }
 }
 
-// Puts the line of the datagram that was completed, if one was.
-fn put_taken(pairs: &[u8; 712], out: &mut [u8], at: usize, t: Taken) -> usize
-    requires { ⌜ (now pairs ≡ digitPairs) × (0 < t .count → (t .count ≤ 18) × (whole (take (t .count) (t .bytes)) ≡ true)) × (at + 512 ≤ length (now out)) ⌝ }
-    ensures { λ r. ⌜ Put (now (out .entry)) at (takenText t) (now (out .exit)) r ⌝ }
+// Puts the line of the datagram that was handed out, if one was.
+fn put_heard(pairs: &[u8; 712], out: &mut [u8], at: usize, time: u32, h: Heard) -> usize
+    requires { ⌜ (now pairs ≡ digitPairs) × (0 < h .count → (h .count ≤ 18) × (whole (take (h .count) (h .bytes)) ≡ true)) × (at + 512 ≤ length (now out)) ⌝ }
+    ensures { λ r. ⌜ Put (now (out .entry)) at (heardText time h) (now (out .exit)) r ⌝ }
 {
-    let n = t.count;
+    let n = h.count as usize;
     if n == 0 {
         return at;
     }
-    let bytes = t.bytes;
-    put_line(pairs, out, at, t.time, &bytes[0..n])
+    let bytes = h.bytes;
+    put_line(pairs, out, at, time, &bytes[0..n])
 }
 
 // The progress before the first record.
