@@ -10,8 +10,9 @@ use Rattle.listener.specs.Step.{hearOf}
 use Rattle.recording.specs.declared.Record.{Record}
 use Rattle.recording.specs.declared.Record.the-variants as record-case
 use Rattle.recording.specs.Record.{recordOf}
-use Rattle.listing.specs.declared.Progress.{Progress}
-use Rattle.listing.specs.Walk.{Walk, walkRecord, behind, counted, advanced, entryOf, walkAll}
+use Rattle.progress.specs.declared.Progress.{Progress}
+use Rattle.progress.specs.Progress.{counted, advanced}
+use Rattle.listing.specs.Walk.{Walk, walkRecord, behind, entryOf, walkAll}
 use Rattle.blocks.specs.Laws.{answersTo, answersIn, howMany}
 
 one-counted : (b : Bool) (n later : ℕ) → (counted b n + later) % 2 ^ 64 ≡ (n + cond b (suc later) later) % 2 ^ 64

@@ -13,9 +13,10 @@ use Rattle.listener.specs.Step.{hearOf}
 use Rattle.recording.specs.declared.Record.{Record}
 use Rattle.recording.specs.declared.Record.the-variants as record-case
 use Rattle.recording.specs.Record.{recordOf}
-use Rattle.listing.specs.declared.Progress.{Progress}
-use Rattle.listing.specs.declared.Stop.the-variants.{Running, Stopped}
-use Rattle.listing.specs.Walk.{Walk, walkRecord, behind, advanced, entryOf, walkAll, recordsIn}
+use Rattle.progress.specs.declared.Progress.{Progress}
+use Rattle.progress.specs.declared.Stop.the-variants.{Running, Stopped}
+use Rattle.progress.specs.Progress.{advanced}
+use Rattle.listing.specs.Walk.{Walk, walkRecord, behind, entryOf, walkAll, recordsIn}
 use Rattle.blocks.specs.Laws.{fromEarlier}
 use Rattle.blocks.proofs.Stretch.{here, Broken, one-more, taken, goes-on, has-stopped}
 use Rattle.blocks.proofs.Records.{no-end, with-more, recordFrom, without}

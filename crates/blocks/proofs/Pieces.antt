@@ -9,11 +9,12 @@ use lib.Seq.{drop-append-le}
 use Rattle.recording.specs.declared.Record.{Record}
 use Rattle.recording.specs.declared.Record.the-variants as record-case
 use Rattle.recording.specs.Record.{recordOf}
-use Rattle.listing.specs.declared.Progress.{Progress}
-use Rattle.listing.specs.declared.Stop.{Stop}
-use Rattle.listing.specs.declared.Stop.the-variants.{Running, Stopped}
+use Rattle.progress.specs.declared.Progress.{Progress}
+use Rattle.progress.specs.declared.Stop.{Stop}
+use Rattle.progress.specs.declared.Stop.the-variants.{Running, Stopped}
 use Rattle.listing.specs.Line.{headerLine}
-use Rattle.listing.specs.Walk.{Walk, walkAll, recordsIn, begun, cutOff, endOf, endText, listingOf}
+use Rattle.progress.specs.Progress.{begun, cutOff}
+use Rattle.listing.specs.Walk.{Walk, walkAll, recordsIn, endOf, endText, listingOf}
 use Rattle.blocks.specs.Laws.{stopFrom, onward, pieced, joined}
 use Rattle.blocks.proofs.Records.{recordFrom, without}
 use Rattle.blocks.proofs.Cuts.{reached, then-the-rest, already-stopped}

@@ -8,9 +8,10 @@ use lib.Dec.{leb}
 use lib.ListN.{length}
 use Rattle.datagram.specs.declared.Refusal.{Refusal}
 use Rattle.recording.specs.Record.{recordOf}
-use Rattle.listing.specs.declared.Progress.{Progress}
-use Rattle.listing.specs.declared.Stop.the-variants.{Running, Stopped}
-use Rattle.listing.specs.Walk.{Walk, walk, behind, advanced, entryOf, lineRoom, walkFrom, walkAll}
+use Rattle.progress.specs.declared.Progress.{Progress}
+use Rattle.progress.specs.declared.Stop.the-variants.{Running, Stopped}
+use Rattle.progress.specs.Progress.{advanced}
+use Rattle.listing.specs.Walk.{Walk, walk, behind, entryOf, lineRoom, walkFrom, walkAll}
 use Rattle.blocks.proofs.Stretch.{here, Broken, one-more, taken, goes-on, has-stopped}
 
 with-room : {s : List ℕ} {n at : ℕ} {p : Progress} {w : Walk} (b : Bool) → Broken s n at p w

@@ -9,9 +9,10 @@ use Rattle.listener.specs.Step.{hearOf}
 use Rattle.recording.specs.declared.Record.{Record}
 use Rattle.recording.specs.declared.Record.the-variants as record-case
 use Rattle.recording.specs.Record.{recordOf}
-use Rattle.listing.specs.declared.Progress.{Progress}
-use Rattle.listing.specs.declared.Stop.the-variants.{Running, Stopped}
-use Rattle.listing.specs.Walk.{Walk, walk, behind, advanced, entryOf, walkRecord, walkAll}
+use Rattle.progress.specs.declared.Progress.{Progress}
+use Rattle.progress.specs.declared.Stop.the-variants.{Running, Stopped}
+use Rattle.progress.specs.Progress.{advanced}
+use Rattle.listing.specs.Walk.{Walk, walk, behind, entryOf, walkRecord, walkAll}
 
 -- of so many records from an offset on, a walk that leaves so many
 pub data Stretch (s : List ℕ) : ℕ → ℕ → Progress → ℕ → Walk → Type 0 where

@@ -12,11 +12,12 @@ use Rattle.listener.specs.Step.{hearOf}
 use Rattle.recording.specs.declared.Record.{Record}
 use Rattle.recording.specs.declared.Record.the-variants as record-case
 use Rattle.recording.specs.Record.{recordOf}
-use Rattle.listing.specs.declared.Progress.{Progress}
-use Rattle.listing.specs.declared.Stop.{Stop}
-use Rattle.listing.specs.declared.Stop.the-variants.{Running, Stopped}
+use Rattle.progress.specs.declared.Progress.{Progress}
+use Rattle.progress.specs.declared.Stop.{Stop}
+use Rattle.progress.specs.declared.Stop.the-variants.{Running, Stopped}
 use Rattle.listing.specs.Line.{headerLine}
-use Rattle.listing.specs.Walk.{Walk, walk, behind, walkFrom, walkAll, recordsIn, isHanded, isCancelled, isStray, begun, cutOff, endText, listingOf}
+use Rattle.progress.specs.Progress.{isHanded, isCancelled, isStray, begun, cutOff}
+use Rattle.listing.specs.Walk.{Walk, walk, behind, walkFrom, walkAll, recordsIn, endText, listingOf}
 
 -- a walk whose offsets are counted from so many bytes earlier
 abbrev pub stopFrom : ℕ → Stop → Stop

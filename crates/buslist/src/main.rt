@@ -2,12 +2,12 @@
 use libc::EINTR;
 use libc::STDIN_FILENO;
 use libc::STDOUT_FILENO;
-use listing::Progress;
-use listing::Stop;
-use listing::block::begin;
-use listing::block::end_of;
 use listing::block::list_block;
-use listing::block::placed_from;
+use progress::Progress;
+use progress::Stop;
+use progress::begin;
+use progress::end_of;
+use progress::placed_from;
 ghost use Prim.Native.Nat.{_≤_};
 ghost use lib.ListN.{length};
 

@@ -19,9 +19,10 @@ use Rattle.listener.specs.declared.Heard.{Heard}
 use Rattle.listener.specs.declared.Answer.the-variants.{Opened, Kept}
 use Rattle.listener.proofs.Held.{Unfinished, on-command, on-other}
 use Rattle.recording.specs.Record.{timeAt}
-use Rattle.listing.specs.declared.Progress.{Progress}
+use Rattle.progress.specs.declared.Progress.{Progress}
 use Rattle.listing.specs.Line.{lineOf}
-use Rattle.listing.specs.Walk.{Walk, behind, walkFrom, advanced, entryOf, counted}
+use Rattle.progress.specs.Progress.{advanced, counted}
+use Rattle.listing.specs.Walk.{Walk, behind, walkFrom, entryOf}
 use Rattle.listing.specs.Taken.{Ahead}
 use Rattle.listing.proofs.Walks.{walk-heard}
 

@@ -16,7 +16,7 @@ use Rattle.listener.specs.declared.Heard.{Heard}
 use Rattle.listener.specs.State.{sound, heldBytes, holding}
 use Rattle.listener.specs.Step.{hearOf, step, quiet, commandSymbol, otherSymbol, reaching, refusedBy}
 use Rattle.datagram.specs.Refusals.{symbolAbove, notSound}
-use Rattle.listing.specs.Walk.{isHanded}
+use Rattle.progress.specs.Progress.{isHanded}
 
 -- what is handed out is at most 18 bytes and whole, and leaves nothing held; else nothing is
 abbrev Hands : Heard → Type 0

@@ -18,8 +18,8 @@ use Rattle.message.specs.Table.{findOf}
 use Rattle.listing.specs.Words.{nameOf}
 use Rattle.listing.specs.Line.{contentOf}
 use Rattle.listing.specs.Walk.{stopText}
-use Rattle.listing.specs.declared.Stop.{Stop}
-use Rattle.listing.specs.declared.Stop.the-variants.{Running, Stopped}
+use Rattle.progress.specs.declared.Stop.{Stop}
+use Rattle.progress.specs.declared.Stop.the-variants.{Running, Stopped}
 use Rattle.listing.proofs.Decimal.{decimal-most}
 use Rattle.listing.proofs.Spaced.{numbers-length}
 

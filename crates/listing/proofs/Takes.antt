@@ -16,13 +16,14 @@ use Rattle.listener.specs.declared.Listener.{Listener}
 use Rattle.listener.specs.declared.Heard.{Heard}
 use Rattle.recording.specs.declared.Record.the-variants as record-case
 use Rattle.recording.specs.Record.{recordOf}
-use Rattle.listing.specs.declared.Progress.{Progress}
-use Rattle.listing.specs.declared.Stop.{Stop}
-use Rattle.listing.specs.declared.Stop.the-variants.{Running}
+use Rattle.progress.specs.declared.Progress.{Progress}
+use Rattle.progress.specs.declared.Stop.{Stop}
+use Rattle.progress.specs.declared.Stop.the-variants.{Running}
 use Rattle.listing.specs.declared.block.Taken.{Taken}
 use Rattle.listing.specs.Text.{Put}
 use Rattle.listing.specs.Line.{lineOf}
-use Rattle.listing.specs.Walk.{walk, walkFrom, advanced, isHanded}
+use Rattle.progress.specs.Progress.{advanced, isHanded}
+use Rattle.listing.specs.Walk.{walk, walkFrom}
 use Rattle.listing.specs.Taken.{Ahead, Took, heardText}
 use Rattle.listing.proofs.Handed.{hands, declared-whole}
 use Rattle.listing.proofs.Spaced.{take-most}

@@ -11,11 +11,12 @@ use Rattle.listener.specs.Step.{hearOf}
 use Rattle.recording.specs.declared.Record.the-variants as record-case
 use Rattle.recording.specs.Record.{recordOf}
 use Rattle.listing.specs.declared.Listed.{Listed}
-use Rattle.listing.specs.declared.Progress.{Progress}
-use Rattle.listing.specs.declared.Stop.{Stop}
-use Rattle.listing.specs.declared.Stop.the-variants.{Running, Stopped}
+use Rattle.progress.specs.declared.Progress.{Progress}
+use Rattle.progress.specs.declared.Stop.{Stop}
+use Rattle.progress.specs.declared.Stop.the-variants.{Running, Stopped}
 use Rattle.listing.specs.Text.{Put}
-use Rattle.listing.specs.Walk.{walk, behind, walkFrom, advanced, entryOf, Block}
+use Rattle.progress.specs.Progress.{advanced}
+use Rattle.listing.specs.Walk.{walk, behind, walkFrom, entryOf, Block}
 use Rattle.listing.proofs.Put.{put-then, put-nothing}
 
 module _ (s : List ℕ) (at : ℕ) (p : Progress) (n room : ℕ) (some : 0 < n) where

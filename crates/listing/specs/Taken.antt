@@ -10,7 +10,7 @@ use Rattle.listener.specs.State.{holding}
 use Rattle.listener.specs.declared.Heard.{Heard}
 use Rattle.recording.specs.declared.Record.the-variants as record-case
 use Rattle.recording.specs.Record.{recordOf, timeAt}
-use Rattle.listing.specs.declared.Progress.{Progress}
+use Rattle.progress.specs.declared.Progress.{Progress}
 use Rattle.listing.specs.declared.block.Taken.{Taken}
 use Rattle.listing.specs.Text.{Put}
 use Rattle.listing.specs.Line.{lineOf}

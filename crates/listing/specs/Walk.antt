@@ -1,67 +1,22 @@
 -- A recording as text: each record is heard in the state that the one before it left, and each datagram handed out is a line.
-use Prim.Native.Nat.{ℕ, zero, suc, _+_, _-_, _/_, _%_, _^_}
-use mathlib.Core.Bool.{Bool, true, false, cond}
+use Prim.Native.Nat.{ℕ, zero, suc, _+_, _-_, _/_}
+use mathlib.Core.Bool.{cond}
 use mathlib.Core.List.{List, [], _++_}
 use lib.Dec.{leb}
 use mathlib.Core.Path.{_≡_}
 use lib.ListN.{length, take}
 use lib.Seq.{sets}
-use Rattle.listener.specs.declared.Answer.{Answer}
-use Rattle.listener.specs.declared.Answer.the-variants as answer
 use Rattle.listener.specs.declared.Heard.{Heard}
-use Rattle.listener.specs.State.{holding}
 use Rattle.listener.specs.Step.{hearOf}
 use Rattle.recording.specs.declared.Record.{Record}
 use Rattle.recording.specs.declared.Record.the-variants as record-case
 use Rattle.recording.specs.Record.{recordOf}
 use Rattle.listing.specs.declared.Listed.{Listed}
-use Rattle.listing.specs.declared.Progress.{Progress}
-use Rattle.listing.specs.declared.Stop.{Stop}
-use Rattle.listing.specs.declared.Stop.the-variants.{Running, Stopped}
+use Rattle.progress.specs.declared.Progress.{Progress}
+use Rattle.progress.specs.declared.Stop.{Stop}
+use Rattle.progress.specs.declared.Stop.the-variants.{Running, Stopped}
+use Rattle.progress.specs.Progress.{begun, isHanded, advanced, cutOff}
 use Rattle.listing.specs.Line.{lineOf, headerLine, stoppedLine, countLine}
-
--- nothing heard yet
-abbrev pub begun : Progress
-begun = record { listener = holding []; handed = 0; cancelled = 0; stray = 0 }
-
--- one more on a 64-bit counter where the answer is of that sort
-abbrev pub counted : Bool → ℕ → ℕ
-counted true n = (n + 1) % 2 ^ 64
-counted false n = n
-
-abbrev pub isHanded : Answer → Bool
-isHanded answer.Opened = false
-isHanded answer.Cancelled = false
-isHanded answer.Stray = false
-isHanded answer.Kept = false
-isHanded answer.HandedOut = true
-isHanded (answer.Refused r) = false
-
-abbrev pub isCancelled : Answer → Bool
-isCancelled answer.Opened = false
-isCancelled answer.Cancelled = true
-isCancelled answer.Stray = false
-isCancelled answer.Kept = false
-isCancelled answer.HandedOut = false
-isCancelled (answer.Refused r) = false
-
-abbrev pub isStray : Answer → Bool
-isStray answer.Opened = false
-isStray answer.Cancelled = false
-isStray answer.Stray = true
-isStray answer.Kept = false
-isStray answer.HandedOut = false
-isStray (answer.Refused r) = false
-
--- the progress after an answer
-abbrev pub advanced : Progress → Heard → Progress
-advanced p h =
-    record {
-      listener = h .listener;
-      handed = counted (isHanded (h .answer)) (p .handed);
-      cancelled = counted (isCancelled (h .answer)) (p .cancelled);
-      stray = counted (isStray (h .answer)) (p .stray);
-    }
 
 -- a datagram handed out is a line with the time of its last symbol
 abbrev pub entryOf : ℕ → Heard → List ℕ
@@ -122,17 +77,6 @@ unfoldable pub walkAll : ℕ → List ℕ → ℕ → Progress → Walk
 walkAll zero s at p = walk [] p at Running
 walkAll (suc k) s at p =
     walkRecord (recordOf s at) p at (λ time h. behind (entryOf time h) (walkAll k s (at + 8) (advanced p h)))
-
--- what stands at an offset where no whole record is left: the end, or a record cut short
-abbrev pub cutOff : Record → Stop
-cutOff (record-case.Heard time symbol) = Running
-cutOff record-case.End = Running
-cutOff (record-case.Refused r) = Stopped r
-
--- a refusal's place counted from so many bytes earlier, on a 64-bit counter
-abbrev pub placedFrom : ℕ → Stop → Stop
-placedFrom base Running = Running
-placedFrom base (Stopped r) = Stopped (record { number = r .number; place = (base + r .place) % 2 ^ 64 })
 
 -- why the listing of a whole recording ends
 abbrev pub endOf : Stop → List ℕ → ℕ → Stop

@@ -1,14 +1,13 @@
 // A block of a recording, listed record by record.
 use crate::Listed;
-use crate::Progress;
-use crate::Stop;
 use crate::digit_pairs;
 use crate::put_line;
-use datagram::Refusal;
-use listener::Answer;
 use listener::Heard;
-use listener::Listener;
 use number::word_of;
+use progress::Progress;
+use progress::Stop;
+use progress::advance;
+use progress::handed_out;
 use recording::Record;
 ghost use mathlib.Core.Path.{_≡_};
 ghost use Prim.Native.Nat.{_+_, _-_, _*_, _≤_, _<_};
@@ -18,7 +17,7 @@ ghost use Rattle.datagram.specs.Whole.{whole};
 ghost use Rattle.recording.specs.Record.{recordOf, timeAt, byteOf};
 ghost use Rattle.listing.specs.Text.{Put, digitPairs};
 ghost use Rattle.listing.specs.Line.{lineOf};
-ghost use Rattle.listing.specs.Walk.{Block, walkFrom, recordsIn, advanced, counted, begun, cutOff, placedFrom};
+ghost use Rattle.listing.specs.Walk.{Block, walkFrom, recordsIn};
 ghost use Rattle.listing.specs.Taken.{Took, Ahead, heardText};
 
 // What one record gave: the progress after it, the place after its text, and whether nothing is held now. No record is
@@ -89,14 +88,6 @@ fn put_ahead(
         time_at(input, at + 8 * (n - 1)),
         &bytes[0..n],
     )
-}
-
-// One datagram more was handed out.
-fn handed_out(p: Progress) -> Progress
-    ensures { λ r. ⌜ r ≡ (record { listener = p .listener; handed = counted true (p .handed); cancelled = p .cancelled; stray = p .stray }) ⌝ }
-{
-    let l = p.listener;
-    progressed(l, count(true, p.handed), p.cancelled, p.stray)
 }
 
 // Hears the record at an offset, and puts the line of the datagram that it completes, if it does.
@@ -208,47 +199,6 @@ fn listed(progress: Progress, used: usize, written: usize, stop: Stop) -> Listed
     }
 }
 
-// One more on a counter of 64 bits.
-fn count(on: bool, n: u64) -> u64
-    ensures { λ r. ⌜ r ≡ counted on n ⌝ }
-{
-    if on {
-        std::num::wrapping_add_u64(n, 1)
-    } else {
-        n
-    }
-}
-
-// The progress after an answer.
-fn advance(p: Progress, h: Heard) -> Progress
-    ensures { λ r. ⌜ r ≡ advanced p h ⌝ }
-{
-    let l = h.listener;
-    let answer = h.answer;
-    let handed = p.handed;
-    let cancelled = p.cancelled;
-    let stray = p.stray;
-    match answer {
-        Answer::Opened => progressed(l, handed, cancelled, stray),
-        Answer::Cancelled => progressed(l, handed, count(true, cancelled), stray),
-        Answer::Stray => progressed(l, handed, cancelled, count(true, stray)),
-        Answer::Kept => progressed(l, handed, cancelled, stray),
-        Answer::HandedOut => progressed(l, count(true, handed), cancelled, stray),
-        Answer::Refused(_) => progressed(l, handed, cancelled, stray),
-    }
-}
-
-fn progressed(listener: Listener, handed: u64, cancelled: u64, stray: u64) -> Progress
-    ensures { λ r. ⌜ r ≡ (record { listener = listener; handed = handed; cancelled = cancelled; stray = stray }) ⌝ }
-{
-    Progress {
-        listener: listener,
-        handed: handed,
-        cancelled: cancelled,
-        stray: stray,
-    }
-}
-
 // Puts the line of the datagram that was handed out, if one was.
 fn put_heard(pairs: &[u8; 712], out: &mut [u8], at: usize, time: u32, h: Heard) -> usize
     requires { ⌜ (now pairs ≡ digitPairs) × (0 < h .count → (h .count ≤ 18) × (whole (take (h .count) (h .bytes)) ≡ true)) × (at + 512 ≤ length (now out)) ⌝ }
@@ -260,35 +210,4 @@ fn put_heard(pairs: &[u8; 712], out: &mut [u8], at: usize, time: u32, h: Heard) 
     }
     let bytes = h.bytes;
     put_line(pairs, out, at, time, &bytes[0..n])
-}
-
-// The progress before the first record.
-pub fn begin() -> Progress
-    ensures { λ r. ⌜ r ≡ begun ⌝ }
-{
-    progressed(listener::silent(), 0, 0, 0)
-}
-
-// Why a listing ends where no whole record is left: these bytes are none, or a record cut short.
-pub fn end_of(rest: &[u8]) -> Stop
-    ensures { λ r. ⌜ r ≡ cutOff (recordOf (now (rest .entry)) 0) ⌝ }
-{
-    match recording::record_at(rest, 0) {
-        Record::Heard { time: _, symbol: _ } => Stop::Running,
-        Record::End => Stop::Running,
-        Record::Refused(r) => Stop::Stopped(r),
-    }
-}
-
-// The refusal's place in the whole input, where the block began at `base`.
-pub fn placed_from(base: u64, stop: Stop) -> Stop
-    ensures { λ r. ⌜ r ≡ placedFrom base stop ⌝ }
-{
-    match stop {
-        Stop::Running => Stop::Running,
-        Stop::Stopped(r) => Stop::Stopped(Refusal {
-            number: r.number,
-            place: std::num::wrapping_add_u64(base, r.place),
-        }),
-    }
 }

@@ -1,10 +1,10 @@
 // The listing: a recording as lines of text, block by block, in a lent buffer.
 pub mod block;
 
-use datagram::Refusal;
-use listener::Listener;
 use message::Message;
 use message::Reading;
+use progress::Progress;
+use progress::Stop;
 ghost use mathlib.Core.Path.{_≡_};
 ghost use mathlib.Core.Bool.{true};
 ghost use mathlib.Core.List.{[], _∷_, _++_};
@@ -17,20 +17,6 @@ ghost use Rattle.listing.specs.Text.{Put, Placed, placed, digitPairs, pa
 ghost use Rattle.datagram.specs.Whole.{whole};
 ghost use Rattle.listing.specs.Walk.{stopText, endText};
 ghost use Rattle.listing.specs.Line.{messageText, contentOf, lineOf, countLine, headerLine};
-
-// What is carried from block to block: the listener, and how many answers of each counted sort it gave.
-pub struct Progress {
-    pub listener: Listener,
-    pub handed: u64,
-    pub cancelled: u64,
-    pub stray: u64,
-}
-
-// Whether the listing goes on, or a record was refused.
-pub enum Stop {
-    Running,
-    Stopped(Refusal),
-}
 
 // A block's outcome: the progress, the bytes of input that were listed, and the bytes of text put.
 pub struct Listed {

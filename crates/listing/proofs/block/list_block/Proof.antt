@@ -10,8 +10,8 @@ use lib.ListN.{length, take}
 use Rattle.listener.specs.State.{holding}
 use Rattle.listener.proofs.Sound.{empty-is}
 use Rattle.recording.specs.Record.{timeAt}
-use Rattle.listing.specs.declared.Progress.{Progress}
-use Rattle.listing.specs.declared.Stop.the-variants.{Running}
+use Rattle.progress.specs.declared.Progress.{Progress}
+use Rattle.progress.specs.declared.Stop.the-variants.{Running}
 use Rattle.listing.specs.Line.{lineOf}
 use Rattle.listing.specs.Walk.{walkFrom}
 use Rattle.listing.proofs.Put.{put-length}

@@ -1,7 +1,7 @@
 -- `list_record` hears the record that stands there, as the walk does.
 use borrow.Author.Needs.{needs}
 use mathlib.Core.Path.{refl, sym, _∙_}
-use Rattle.listing.specs.declared.Stop.the-variants.{Running, Stopped}
+use Rattle.progress.specs.declared.Stop.the-variants.{Running, Stopped}
 use Rattle.listing.proofs.Takes.{took-one, took-none, heard-whole}
 use Rattle.listing.proofs.Walks.{walk-end, walk-refused}
 use Rattle.listing.proofs.block.list_record.Statement.{statement}

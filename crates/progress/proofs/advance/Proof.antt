@@ -1,8 +1,8 @@
 -- `advance` counts the answers that the definition counts.
 use borrow.Author.Needs.{needs}
 use mathlib.Core.Path.{_∙_}
-use Rattle.listing.proofs.block.advance.Statement.{statement}
-use Rattle.listing.proofs.block.advance.Tie as tie
+use Rattle.progress.proofs.advance.Statement.{statement}
+use Rattle.progress.proofs.advance.Tie as tie
 
 enum-told : tie.Need-enum-told
 enum-told c = search needs

@@ -1,9 +1,9 @@
 -- `placed_from` adds the base on 64 bits.
 use borrow.Author.Needs.{needs}
 use mathlib.Core.Path.{sym, ap}
-use Rattle.listing.specs.Walk.{placedFrom}
-use Rattle.listing.proofs.block.placed_from.Statement.{statement}
-use Rattle.listing.proofs.block.placed_from.Tie as tie
+use Rattle.progress.specs.Progress.{placedFrom}
+use Rattle.progress.proofs.placed_from.Statement.{statement}
+use Rattle.progress.proofs.placed_from.Tie as tie
 
 enum-told : tie.Need-enum-told
 enum-told c = search needs

@@ -1,8 +1,8 @@
 -- `handed_out` counts one datagram.
 use borrow.Author.Needs.{needs}
 use mathlib.Core.Path.{_∙_}
-use Rattle.listing.proofs.block.handed_out.Statement.{statement}
-use Rattle.listing.proofs.block.handed_out.Tie as tie
+use Rattle.progress.proofs.handed_out.Statement.{statement}
+use Rattle.progress.proofs.handed_out.Tie as tie
 
 count-requires : tie.Need-count-requires
 count-requires c κs = search needs

@@ -1,8 +1,8 @@
 -- `count` adds one where it should, modulo 2^64.
 use borrow.Author.Needs.{needs}
 use mathlib.Core.Path.{_∙_}
-use Rattle.listing.proofs.block.count.Statement.{statement}
-use Rattle.listing.proofs.block.count.Tie as tie
+use Rattle.progress.proofs.count.Statement.{statement}
+use Rattle.progress.proofs.count.Tie as tie
 
 wrapping-add-u64-requires : tie.Need-wrapping-add-u64-requires
 wrapping-add-u64-requires c κs = search needs

@@ -1,9 +1,9 @@
 -- `end_of` takes the record's case.
 use borrow.Author.Needs.{needs}
 use mathlib.Core.Path.{_∙_, sym, ap}
-use Rattle.listing.specs.Walk.{cutOff}
-use Rattle.listing.proofs.block.end_of.Statement.{statement}
-use Rattle.listing.proofs.block.end_of.Tie as tie
+use Rattle.progress.specs.Progress.{cutOff}
+use Rattle.progress.proofs.end_of.Statement.{statement}
+use Rattle.progress.proofs.end_of.Tie as tie
 
 record-at-requires : tie.Need-record-at-requires
 record-at-requires c κs = search needs

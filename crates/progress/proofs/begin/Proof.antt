@@ -1,8 +1,8 @@
 -- `begin` counts nothing and holds nothing.
 use borrow.Author.Needs.{needs}
 use mathlib.Core.Path.{_∙_}
-use Rattle.listing.proofs.block.begin.Statement.{statement}
-use Rattle.listing.proofs.block.begin.Tie as tie
+use Rattle.progress.proofs.begin.Statement.{statement}
+use Rattle.progress.proofs.begin.Tie as tie
 
 silent-requires : tie.Need-silent-requires
 silent-requires c κs = search needs

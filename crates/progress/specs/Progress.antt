@@ -1,0 +1,67 @@
+-- What is carried from block to block of a listing: the listener and the counts, and whether the listing goes on.
+use Prim.Native.Nat.{ℕ, _+_, _%_, _^_}
+use mathlib.Core.Bool.{Bool, true, false}
+use mathlib.Core.List.{[]}
+use Rattle.listener.specs.declared.Answer.{Answer}
+use Rattle.listener.specs.declared.Answer.the-variants as answer
+use Rattle.listener.specs.declared.Heard.{Heard}
+use Rattle.listener.specs.State.{holding}
+use Rattle.recording.specs.declared.Record.{Record}
+use Rattle.recording.specs.declared.Record.the-variants as record-case
+use Rattle.progress.specs.declared.Progress.{Progress}
+use Rattle.progress.specs.declared.Stop.{Stop}
+use Rattle.progress.specs.declared.Stop.the-variants.{Running, Stopped}
+
+-- nothing heard yet
+abbrev pub begun : Progress
+begun = record { listener = holding []; handed = 0; cancelled = 0; stray = 0 }
+
+-- one more on a 64-bit counter where the answer is of that sort
+abbrev pub counted : Bool → ℕ → ℕ
+counted true n = (n + 1) % 2 ^ 64
+counted false n = n
+
+abbrev pub isHanded : Answer → Bool
+isHanded answer.Opened = false
+isHanded answer.Cancelled = false
+isHanded answer.Stray = false
+isHanded answer.Kept = false
+isHanded answer.HandedOut = true
+isHanded (answer.Refused r) = false
+
+abbrev pub isCancelled : Answer → Bool
+isCancelled answer.Opened = false
+isCancelled answer.Cancelled = true
+isCancelled answer.Stray = false
+isCancelled answer.Kept = false
+isCancelled answer.HandedOut = false
+isCancelled (answer.Refused r) = false
+
+abbrev pub isStray : Answer → Bool
+isStray answer.Opened = false
+isStray answer.Cancelled = false
+isStray answer.Stray = true
+isStray answer.Kept = false
+isStray answer.HandedOut = false
+isStray (answer.Refused r) = false
+
+-- the progress after an answer
+abbrev pub advanced : Progress → Heard → Progress
+advanced p h =
+    record {
+      listener = h .listener;
+      handed = counted (isHanded (h .answer)) (p .handed);
+      cancelled = counted (isCancelled (h .answer)) (p .cancelled);
+      stray = counted (isStray (h .answer)) (p .stray);
+    }
+
+-- what stands at an offset where no whole record is left: the end, or a record cut short
+abbrev pub cutOff : Record → Stop
+cutOff (record-case.Heard time symbol) = Running
+cutOff record-case.End = Running
+cutOff (record-case.Refused r) = Stopped r
+
+-- a refusal's place counted from so many bytes earlier, on a 64-bit counter
+abbrev pub placedFrom : ℕ → Stop → Stop
+placedFrom base Running = Running
+placedFrom base (Stopped r) = Stopped (record { number = r .number; place = (base + r .place) % 2 ^ 64 })
