@@ -1,6 +1,6 @@
 /* Measures the stack that each call of include/seatalk.h takes: a stack of its own is filled with a pattern, the call
    is made on it, and the lowest byte that changed tells how deep it reached, its return address counted. That is done
-   for every kind, answer and refusal, twice with different patterns. For bench/stack; x86-64, gcc. */
+   for every kind, answer and refusal, with two patterns in turn. For bench/stack; x86-64, gcc. */
 #include "seatalk.h"
 
 #include <stdio.h>
@@ -18,12 +18,11 @@ enum { COMMANDS = sizeof commands / sizeof commands[0] };
 /* What was measured of one call. */
 struct depth {
     const char *name;
-    unsigned long calls, refused;
-    unsigned long most;
+    unsigned long calls, most, refused[9]; /* of each refusal, how many */
 };
 
-static struct depth hear = {"seatalk_hear", 0, 0, 0}, reading = {"seatalk_read", 0, 0, 0},
-                    writing = {"seatalk_write", 0, 0, 0};
+static struct depth hear = {.name = "seatalk_hear"}, reading = {.name = "seatalk_read"},
+                    writing = {.name = "seatalk_write"};
 
 static _Alignas(16) uint8_t stack[STACK];
 static uint64_t seed = 4800;
@@ -42,8 +41,8 @@ static int32_t on_stack(const void *function, uint64_t a, uint64_t b, uint64_t c
     __asm__ volatile("movq %%rsp, %%rbx\n\tmovq %[top], %%rsp\n\tcall *%[function]\n\tmovq %%rbx, %%rsp"
                      : "=a"(returned), "+D"(a), "+S"(b), "+d"(c), "+c"(d), "+r"(fifth)
                      : [top] "r"(stack + STACK), [function] "r"(function)
-                     : "rbx", "r9", "r10", "r11", "xmm0", "xmm1", "xmm2", "xmm3", "xmm4", "xmm5", "xmm6", "xmm7", "xmm8",
-                       "xmm9", "xmm10", "xmm11", "xmm12", "xmm13", "xmm14", "xmm15", "cc", "memory");
+                     : "rbx", "r9", "r10", "r11", "xmm0", "xmm1", "xmm2", "xmm3", "xmm4", "xmm5", "xmm6", "xmm7",
+                       "xmm8", "xmm9", "xmm10", "xmm11", "xmm12", "xmm13", "xmm14", "xmm15", "cc", "memory");
     return (int32_t)returned;
 }
 
@@ -57,7 +56,8 @@ static int32_t measure(struct depth *depth, const void *function, uint64_t a, ui
     while (untouched < STACK && stack[untouched] == pattern)
         untouched++;
     depth->calls++;
-    depth->refused += returned < 0;
+    if (returned < 0)
+        depth->refused[SEATALK_REFUSAL_NUMBER(returned)]++;
     if (STACK - untouched > depth->most)
         depth->most = STACK - untouched;
     return returned;
@@ -110,10 +110,12 @@ static void measure_read_and_write(void)
             for (size_t n = 0; n < sizeof fields; n++)
                 fields[n] = (uint8_t)below(n % 4 < 2 ? 256 : 2);
         }
+        if (below(20) == 0)
+            size = (int32_t)below(sizeof fields + 1);
         room = below(20) == 0 ? below(SEATALK_SYMBOLS_SIZE) : sizeof symbols;
         for (unsigned twice = 0; twice < 2; twice++)
-            measure(&writing, (const void *)seatalk_write, commands[k], POINTER(fields), (uint64_t)size, POINTER(symbols),
-                    room);
+            measure(&writing, (const void *)seatalk_write, commands[k], POINTER(fields), (uint64_t)size,
+                    POINTER(symbols), room);
     }
 }
 
@@ -122,8 +124,12 @@ int main(void)
     const struct depth *all[] = {&hear, &reading, &writing};
     measure_hear();
     measure_read_and_write();
-    for (size_t i = 0; i < sizeof all / sizeof all[0]; i++)
-        printf("%-13s %4lu bytes of stack at most, in %lu calls, %lu of them refused\n", all[i]->name, all[i]->most,
-               all[i]->calls, all[i]->refused);
+    for (size_t i = 0; i < sizeof all / sizeof all[0]; i++) {
+        printf("%-13s %4lu bytes of stack at most, in %lu calls; refused:", all[i]->name, all[i]->most, all[i]->calls);
+        for (unsigned n = 0; n < sizeof all[i]->refused / sizeof all[i]->refused[0]; n++)
+            if (all[i]->refused[n] > 0)
+                printf(" %lu with %u", all[i]->refused[n], n);
+        printf("\n");
+    }
     return 0;
 }
