@@ -64,32 +64,48 @@ fn judge(reading: Reading) -> Reading
 fn read_kind(kind: Kind, bytes: &[u8]) -> Reading
     ensures { λ r. ⌜ r ≡ readKind kind (now (bytes .entry)) ⌝ }
 {
-    let b1 = byte_at(bytes, 1);
-    let b2 = byte_at(bytes, 2);
-    let b3 = byte_at(bytes, 3);
-    let b4 = byte_at(bytes, 4);
-    let b5 = byte_at(bytes, 5);
-    let b6 = byte_at(bytes, 6);
     match kind {
-        Kind::Depth => kinds::depth(b2, b3, b4),
-        Kind::WindAngle => kinds::wind_angle(b2, b3),
-        Kind::WindSpeed => kinds::wind_speed(b2, b3),
-        Kind::Speed => kinds::speed(b2, b3),
-        Kind::Trip => kinds::trip(b2, b3, b4),
-        Kind::Total => kinds::total(b2, b3),
-        Kind::Logs => kinds::logs(b1, b2, b3, b4, b5, b6),
-        Kind::Speeds => kinds::speeds(b2, b3, b4, b5, b6),
-        Kind::Water => kinds::water(b2, b3),
-        Kind::Lamp => kinds::lamp(b2),
-        Kind::Latitude => kinds::latitude(b2, b3, b4),
-        Kind::Longitude => kinds::longitude(b2, b3, b4),
-        Kind::Ground => kinds::ground(b2, b3),
-        Kind::Course => kinds::course(b1, b2),
-        Kind::Time => kinds::time(b1, b2, b3),
-        Kind::Date => kinds::date(b1, b2, b3),
-        Kind::Key => kinds::key(b1, b2, b3),
-        Kind::Heading => kinds::heading(b1, b2, b3, b4),
-        Kind::Variation => kinds::variation(b2),
-        Kind::Turn => kinds::turn(b1, b2, b3),
+        Kind::Depth => kinds::depth(byte_at(bytes, 2), byte_at(bytes, 3), byte_at(bytes, 4)),
+        Kind::WindAngle => kinds::wind_angle(byte_at(bytes, 2), byte_at(bytes, 3)),
+        Kind::WindSpeed => kinds::wind_speed(byte_at(bytes, 2), byte_at(bytes, 3)),
+        Kind::Speed => kinds::speed(byte_at(bytes, 2), byte_at(bytes, 3)),
+        Kind::Trip => kinds::trip(byte_at(bytes, 2), byte_at(bytes, 3), byte_at(bytes, 4)),
+        Kind::Total => kinds::total(byte_at(bytes, 2), byte_at(bytes, 3)),
+        Kind::Logs => kinds::logs(
+            byte_at(bytes, 1),
+            byte_at(bytes, 2),
+            byte_at(bytes, 3),
+            byte_at(bytes, 4),
+            byte_at(bytes, 5),
+            byte_at(bytes, 6),
+        ),
+        Kind::Speeds => kinds::speeds(
+            byte_at(bytes, 2),
+            byte_at(bytes, 3),
+            byte_at(bytes, 4),
+            byte_at(bytes, 5),
+            byte_at(bytes, 6),
+        ),
+        Kind::Water => kinds::water(byte_at(bytes, 2), byte_at(bytes, 3)),
+        Kind::Lamp => kinds::lamp(byte_at(bytes, 2)),
+        Kind::Latitude => kinds::latitude(byte_at(bytes, 2), byte_at(bytes, 3), byte_at(bytes, 4)),
+        Kind::Longitude => kinds::longitude(
+            byte_at(bytes, 2),
+            byte_at(bytes, 3),
+            byte_at(bytes, 4),
+        ),
+        Kind::Ground => kinds::ground(byte_at(bytes, 2), byte_at(bytes, 3)),
+        Kind::Course => kinds::course(byte_at(bytes, 1), byte_at(bytes, 2)),
+        Kind::Time => kinds::time(byte_at(bytes, 1), byte_at(bytes, 2), byte_at(bytes, 3)),
+        Kind::Date => kinds::date(byte_at(bytes, 1), byte_at(bytes, 2), byte_at(bytes, 3)),
+        Kind::Key => kinds::key(byte_at(bytes, 1), byte_at(bytes, 2), byte_at(bytes, 3)),
+        Kind::Heading => kinds::heading(
+            byte_at(bytes, 1),
+            byte_at(bytes, 2),
+            byte_at(bytes, 3),
+            byte_at(bytes, 4),
+        ),
+        Kind::Variation => kinds::variation(byte_at(bytes, 2)),
+        Kind::Turn => kinds::turn(byte_at(bytes, 1), byte_at(bytes, 2), byte_at(bytes, 3)),
     }
 }
