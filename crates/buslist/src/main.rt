@@ -21,8 +21,8 @@ struct Carried {
 }
 
 fn main() {
-    let mut input = [0u8; 131072];
-    let mut out = [0u8; 262144];
+    let mut input = [0u8; 65536];
+    let mut out = [0u8; 131072];
     let header = listing::put_header(&mut out);
     if !put_out(&out, header) {
         return;

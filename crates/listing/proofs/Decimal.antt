@@ -1,6 +1,6 @@
 -- Numbers in decimal: how many digits there are, and the digits from the right.
 use mathlib.Core.Path.{_≡_, refl, ap, _∙_}
-use mathlib.Core.List.{List, [], _∷_}
+use mathlib.Core.List.{List, [], _∷_, _++_}
 use mathlib.Core.Bool.{Bool, true, false, cond}
 use Prim.Native.Nat.{ℕ, zero, suc, _+_, _*_, _-_, _/_, _%_, _≤_, _<_}
 use native.Mathlib.Omega.{arith}
@@ -97,6 +97,26 @@ decimal-two n g h = rw (le-ltb n 10 g, lt-ltb (n / 10) 10 (omega arith))
 pub decimal-three : (n : ℕ) → 100 ≤ n → n < 1000 → decimal n ≡ (48 + n / 100) ∷ pairOf (n % 100)
 unfolding decimal
 decimal-three n g h = two-by 18 n [] g ∙ rw (lt-ltb (n / 100) 10 (omega arith))
+
+-- with fuel for its digits, what follows a number may be put behind it
+by-enough : (k f g m : ℕ) (xs ys : List ℕ) → k < f → k < g → m < to k → decimalBy f m (xs ++ ys) ≡ decimalBy g m xs ++ ys
+by-enough k zero g m xs ys p q h = absurd (omega arith)
+by-enough k (suc f) zero m xs ys p q h = absurd (omega arith)
+by-enough zero (suc f) (suc g) m xs ys p q h = rw (lt-ltb m 10 h)
+by-enough (suc k) (suc f) (suc g) m xs ys p q h =
+    go (ltb m 10) (by-enough k f g (m / 10) ((48 + m % 10) ∷ xs) ys (omega arith) (omega arith) (omega arith))
+  where
+    go : (t : Bool) → decimalBy f (m / 10) ((48 + m % 10) ∷ (xs ++ ys)) ≡ decimalBy g (m / 10) ((48 + m % 10) ∷ xs) ++ ys
+        → cond t ((48 + m) ∷ (xs ++ ys)) (decimalBy f (m / 10) ((48 + m % 10) ∷ (xs ++ ys)))
+        ≡ cond t ((48 + m) ∷ xs) (decimalBy g (m / 10) ((48 + m % 10) ∷ xs)) ++ ys
+    go true e = refl
+    go false e = e
+
+-- the hundreds, and then the last two digits
+pub decimal-hundreds : (n : ℕ) → 100 ≤ n → n < to 17 → decimal n ≡ decimal (n / 100) ++ pairOf (n % 100)
+unfolding decimal
+decimal-hundreds n g h =
+    two-by 18 n [] g ∙ by-enough 17 18 20 (n / 100) [] (pairOf (n % 100)) (omega arith) (omega arith) (omega arith)
 
 -- two stores before others
 pair-sets : (l : List ℕ) (i j x y : ℕ) (xs : List ℕ) → j ≡ suc (suc i) → sets (sets l j xs) i (x ∷ y ∷ []) ≡ sets l i (x ∷ y ∷ xs)

@@ -178,6 +178,31 @@ fn put_decimal(pairs: &[u8; 712], out: &mut [u8], at: usize, n: u64) -> usize
     end
 }
 
+// Puts the two digits of a number below 100.
+fn put_pair(pairs: &[u8; 712], out: &mut [u8], at: usize, n: u32) -> usize
+    requires { ⌜ (now pairs ≡ digitPairs) × (n < 100) × (at + 2 ≤ length (now out)) ⌝ }
+    ensures { λ r. ⌜ Put (now (out .entry)) at (pairOf n) (now (out .exit)) r ⌝ }
+{
+    store_pair(pairs, out, at, n as u64);
+    at + 2
+}
+
+// Puts a time in decimal; of seven digits or more, as most are, the last six without a loop.
+fn put_time(pairs: &[u8; 712], out: &mut [u8], at: usize, n: u32) -> usize
+    requires { ⌜ (now pairs ≡ digitPairs) × (at + 26 ≤ length (now out)) ⌝ }
+    ensures { λ r. ⌜ Put (now (out .entry)) at (decimal n) (now (out .exit)) r ⌝ }
+{
+    if n < 1000000 {
+        return put_decimal(pairs, out, at, n as u64);
+    }
+    let hundreds = n / 100;
+    let myriads = hundreds / 100;
+    let mut p = put_decimal(pairs, out, at, (myriads / 100) as u64);
+    p = put_pair(pairs, out, p, myriads % 100);
+    p = put_pair(pairs, out, p, hundreds % 100);
+    put_pair(pairs, out, p, n % 100)
+}
+
 // Puts a field after a space.
 fn put_number(pairs: &[u8; 712], out: &mut [u8], at: usize, n: u32) -> usize
     requires { ⌜ (now pairs ≡ digitPairs) × (at + 22 ≤ length (now out)) ⌝ }
@@ -493,7 +518,7 @@ fn put_line(pairs: &[u8; 712], out: &mut [u8], at: usize, time: u32, bytes: &[u8
     requires { ⌜ (now pairs ≡ digitPairs) × (whole (now bytes) ≡ true) × (at + 512 ≤ length (now out)) ⌝ }
     ensures { λ r. ⌜ Put (now (out .entry)) at (lineOf time (now (bytes .entry))) (now (out .exit)) r ⌝ }
 {
-    let mut p = put_decimal(pairs, out, at, time as u64);
+    let mut p = put_time(pairs, out, at, time);
     p = put_hex(pairs, out, p, bytes);
     let reading = reader::read_as(message::find(bytes[0]), bytes);
     p = put_content(pairs, out, p, reading);

@@ -7,7 +7,7 @@ use Rattle.buslist.proofs.main.Statement.{statement}
 use Rattle.buslist.proofs.main.Tie as tie
 
 abbrev Inv-loop : tie.InvT-loop
-Inv-loop input₀ out₀ header c₀ left₀ input out c left = (length input ≡ 131072) × (length out ≡ 262144)
+Inv-loop input₀ out₀ header c₀ left₀ input out c left = (length input ≡ 65536) × (length out ≡ 131072)
 
 abbrev μ-loop : tie.MeasureT-loop
 μ-loop input₀ out₀ header c₀ left₀ input out c left = left
@@ -34,7 +34,7 @@ carrying-requires : tie.Need-carrying-requires Inv-loop μ-loop
 carrying-requires c κs = search needs
 
 loop-holds : tie.Need-loop-holds Inv-loop μ-loop
-loop-holds c = (length-replicate {A = ℕ} 131072 0, c .before .before .before .before .before .before .put-header .kept .0 ∙ length-replicate {A = ℕ} 262144 0)
+loop-holds c = (length-replicate {A = ℕ} 65536 0, c .before .before .before .before .before .before .put-header .kept .0 ∙ length-replicate {A = ℕ} 131072 0)
 
 slice-aggregate-turn : tie.Need-slice-aggregate-turn Inv-loop μ-loop
 slice-aggregate-turn c = search needs

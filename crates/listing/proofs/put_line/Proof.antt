@@ -9,13 +9,13 @@ use Rattle.listing.proofs.Lines.{content-most, read-whole}
 use Rattle.listing.proofs.put_line.Statement.{statement}
 use Rattle.listing.proofs.put_line.Tie as tie
 
-put-decimal-requires : tie.Need-put-decimal-requires
-put-decimal-requires c κs = (c .before .before .before .pre .0, omega arith)
+put-time-requires : tie.Need-put-time-requires
+put-time-requires c κs = (c .before .before .before .pre .0, omega arith)
 
 put-hex-requires : tie.Need-put-hex-requires
 put-hex-requires c κs =
     let start = c .before .before .before .before .before .before .before in
-    let p = c .before .before .before .put-decimal .ensures in
+    let p = c .before .before .before .put-time .ensures in
     let whole = declares (start .args .bytes .now) (start .pre .1) in
     (start .pre .0, omega (arith, whole), omega (arith, p .moved, put-length p, decimal-most (start .args .time)))
 
@@ -32,7 +32,7 @@ read-as-requires c κs = search needs
 put-content-requires : tie.Need-put-content-requires
 put-content-requires c κs =
     let start = c .before .before .before .before .before .before .before .before .before .before .before .before .before .before in
-    let p = c .before .before .before .before .before .before .before .before .before .before .put-decimal .ensures in
+    let p = c .before .before .before .before .before .before .before .before .before .before .put-time .ensures in
     let q = c .before .before .before .before .before .before .put-hex .ensures in
     let bytes = start .args .bytes .now in
     (start .pre .0, omega (arith, p .moved, q .moved, put-length p, put-length q, decimal-most (start .args .time), hex-length bytes, declares bytes (start .pre .1)))
@@ -40,7 +40,7 @@ put-content-requires c κs =
 slice-write-out : tie.Need-slice-write-out
 slice-write-out c =
     let start = c .before .before .before .before .before .before .before .before .before .before .before .before .before .before .before .before .before in
-    let p = c .before .before .before .before .before .before .before .before .before .before .before .before .before .put-decimal .ensures in
+    let p = c .before .before .before .before .before .before .before .before .before .before .before .before .before .put-time .ensures in
     let q = c .before .before .before .before .before .before .before .before .before .put-hex .ensures in
     let r = c .before .before .put-content .ensures in
     let bytes = start .args .bytes .now in
@@ -54,7 +54,7 @@ returns c =
     let start = c .before .before .before .before .before .before .before .before .before .before .before .before .before .before .before .before .before in
     let content = rw (c .before .before .before .before .read-as .ensures, c .before .before .before .before .before .find .ensures) at (c .before .before .put-content .ensures) in
     rw (read-whole (start .args .bytes .now) (start .pre .1))
-    (put-then (c .before .before .before .before .before .before .before .before .before .before .before .before .before .put-decimal .ensures) (put-then (c .before .before .before .before .before .before .before .before .before .put-hex .ensures) (put-then content (put-one _ _ 10))))
+    (put-then (c .before .before .before .before .before .before .before .before .before .before .before .before .before .put-time .ensures) (put-then (c .before .before .before .before .before .before .before .before .before .put-hex .ensures) (put-then content (put-one _ _ 10))))
 
 same-length : tie.Need-same-length
 same-length c = put-length (returns c)
@@ -63,7 +63,7 @@ pub put-line-spec : {M : Type 1} → statement M
 put-line-spec =
     tie.close
     (tie.spec
-    put-decimal-requires
+    put-time-requires
     put-hex-requires
     shared-slice-read-find
     find-requires
