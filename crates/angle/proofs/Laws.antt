@@ -38,9 +38,6 @@ half-u v = omega (arith, mod-lt (v / 180) {m = 4} (omega arith))
 pub half-six : (v : ℕ) → halfDigits v .six < 45
 half-six v = omega arith
 
-pub half-range : (u six : ℕ) → u < 16 → six < 45 → halfAngle u six < 720
-half-range u six hu hs = omega arith
-
 pub half-spells : (u six : ℕ) → u < 16 → six < 45 → halfDigits (halfAngle u six) ≡ record { u = u; six = six }
 unfolding spelledBy
 half-spells u six hu hs =
@@ -77,9 +74,6 @@ whole-u d false = omega (arith, mod-lt (d % 360 / 90) {m = 4} (omega arith))
 pub whole-six : (d : ℕ) (right : Bool) → wholeDigits d right .six < 45
 whole-six d true = omega arith
 whole-six d false = omega arith
-
-pub whole-range : (u six : ℕ) → wholeAngle u six < 360
-whole-range u six = mod-lt _ (omega arith)
 
 pub whole-spells : (u six : ℕ) → u < 16 → six < 45 → wholeDigits (wholeAngle u six) (turnsRight u) ≡ record { u = u; six = six }
 unfolding spelledBy

@@ -1,20 +1,15 @@
 -- A 32-bit number of either sign, as the machine reads it back from its bits: its sign, and its distance from -1 or 0.
 use mathlib.Core.Path.{_≡_, refl, ap, _∙_}
 use mathlib.Core.Bool.{true, false}
-use mathlib.Core.List.{List, [], _∷_}
-use Prim.Native.Nat.{ℕ, zero, suc, _+_}
+use mathlib.Core.List.{_∷_}
+use Prim.Native.Nat.{ℕ, suc, _+_}
 use native.Mathlib.Numerals.{add-one}
 use native.Mathlib.Omega.{arith}
 use borrow.Author.Tests.{le-ltb, ltb-true}
 use lib.IntN.{ℤ, pos, negsuc, _-ℤ_}
 use lib.Signed.{mag, ltZ}
-use lib.Dec.{lit<}
-use lib.ListN.{getD}
-use denote.Array.{each}
-use denote.Shadow.{shadow}
-use denote.Signed.{SInt}
 use mir.Syntax.{w32}
-use mir.Val.{Val, SFits, toZ, ofZ}
+use mir.Val.{SFits, toZ, ofZ}
 use mir.ValLaws.{toZ-ofZ}
 use Rattle.listing.specs.Text.{decimal, signedDecimal}
 

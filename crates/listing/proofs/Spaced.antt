@@ -1,6 +1,6 @@
 -- Lists of bytes in hex and of numbers in decimal: one element more, and lengths.
 use mathlib.Core.Path.{_≡_, refl}
-use mathlib.Core.List.{List, [], _∷_, _++_, append-assoc, append-nil}
+use mathlib.Core.List.{List, [], _∷_, _++_, append-assoc}
 use Prim.Native.Nat.{ℕ, suc, _+_, _*_, _≤_, _<_}
 use native.Mathlib.Nat.{min-le-left}
 use native.Mathlib.Numerals.{add-one}
@@ -33,11 +33,6 @@ numbers-append : (xs ys : List ℤ) → spacedNumbers (xs ++ ys) ≡ spacedNumbe
 numbers-append [] ys = refl
 numbers-append (x ∷ xs) ys = rw (numbers-append xs ys, append-assoc (signedDecimal x))
 
-pub numbers-next : (i : ℕ) (zs : List ℤ) → i < length zs
-    → spacedNumbers (take (i + 1) zs) ≡ spacedNumbers (take i zs) ++ (32 ∷ signedDecimal (getD zs i (pos 0)))
-numbers-next i zs h =
-    rw (add-one, take-suc zs i (pos 0), numbers-append) (simp append-nil)
-
 -- one list of numbers after another
 pub numbers-then : (xs ys : List ℤ) {a b c : List ℕ} {at m n : ℕ} → Put a at (spacedNumbers xs) b m → Put b m (spacedNumbers ys) c n
     → Put a at (spacedNumbers (xs ++ ys)) c n
@@ -50,6 +45,3 @@ signed-most (negsuc n) = omega (arith, decimal-most (suc n))
 pub numbers-length : (zs : List ℤ) → length (spacedNumbers zs) ≤ 22 * length zs
 numbers-length [] = omega arith
 numbers-length (z ∷ zs) = simp length-append (omega (arith, signed-most z, numbers-length zs))
-
-pub numbers-most : (i : ℕ) (zs : List ℤ) → length (spacedNumbers (take i zs)) ≤ 22 * i
-numbers-most i zs = omega (arith, numbers-length (take i zs), take-most i zs)
