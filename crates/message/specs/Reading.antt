@@ -55,10 +55,14 @@ abbrev pub judged : Reading → Reading
 judged (Read m) = ruled (rangeOf m) m
 judged (Refused r) = Refused r
 
+-- a datagram of this kind, which has this length
+abbrev pub readSized : Kind → ℕ → List ℕ → Reading
+readSized kind size s = cond (eqb (length s) size) (judged (readKind kind s)) (Refused wrongLength)
+
 -- the datagram by its command's row
 abbrev pub readAs : Lookup → List ℕ → Reading
 readAs Unknown s = Refused unknownCommand
-readAs (Found row) s = cond (eqb (length s) (row .length)) (judged (readKind (row .kind) s)) (Refused wrongLength)
+readAs (Found row) s = readSized (row .kind) (row .length) s
 
 unfoldable pub readOf : List ℕ → Reading
 readOf s = cond (whole s) (readAs (findOf (byte s 0)) s) (Refused notWhole)

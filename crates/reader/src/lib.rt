@@ -10,7 +10,7 @@ use message::Reading;
 use message::Verdict;
 ghost use mathlib.Core.Path.{_≡_};
 ghost use lib.ListN.{getD};
-ghost use Rattle.message.specs.Reading.{readOf, readKind, readAs, judged};
+ghost use Rattle.message.specs.Reading.{readOf, readKind, readAs, readSized, judged};
 
 // Reads any bytes: the message, or refusal 3, 4, 5, 6 or 7, in that order.
 pub fn read(bytes: &[u8]) -> Reading
@@ -37,13 +37,20 @@ pub fn read_as(found: Lookup, bytes: &[u8]) -> Reading
     match found {
         Lookup::Unknown => Reading::Refused(UNKNOWN_COMMAND),
         Lookup::Found(row) => {
-            if bytes.len() == row.length as usize {
-                let kind = row.kind;
-                judge(read_kind(kind, bytes))
-            } else {
-                Reading::Refused(WRONG_LENGTH)
-            }
+            let kind = row.kind;
+            read_sized(kind, row.length, bytes)
         }
+    }
+}
+
+// Reads a datagram of a kind that has a length: the message, or refusal 5, 6 or 7.
+pub fn read_sized(kind: Kind, length: u8, bytes: &[u8]) -> Reading
+    ensures { λ r. ⌜ r ≡ readSized kind length (now (bytes .entry)) ⌝ }
+{
+    if bytes.len() == length as usize {
+        judge(read_kind(kind, bytes))
+    } else {
+        Reading::Refused(WRONG_LENGTH)
     }
 }
 
