@@ -9,7 +9,7 @@ use Rattle.message.specs.declared.Row.{Row}
 use Rattle.message.specs.declared.Lookup.{Lookup}
 use Rattle.message.specs.declared.Lookup.the-variants.{Found, Unknown}
 
-abbrev row : ℕ → ℕ → Kind → Row
+abbrev pub row : ℕ → ℕ → Kind → Row
 row command length kind = record { command = command; length = length; kind = kind }
 
 unfoldable pub kinds : List Row

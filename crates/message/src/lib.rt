@@ -3,7 +3,7 @@ pub mod range;
 
 use datagram::Refusal;
 ghost use mathlib.Core.Path.{_≡_};
-ghost use Rattle.message.specs.Table.{findOf};
+ghost use Rattle.message.specs.Table.{findOf, row};
 
 // A kind of message, by its name in the table of document 01.
 pub enum Kind {
@@ -142,123 +142,42 @@ pub enum Lookup {
     Unknown,
 }
 
-// The one table of kinds, in the order of their commands.
-pub const KINDS: [Row; 20] = [
-    Row {
-        command: 0x00,
-        length: 5,
-        kind: Kind::Depth,
-    },
-    Row {
-        command: 0x10,
-        length: 4,
-        kind: Kind::WindAngle,
-    },
-    Row {
-        command: 0x11,
-        length: 4,
-        kind: Kind::WindSpeed,
-    },
-    Row {
-        command: 0x20,
-        length: 4,
-        kind: Kind::Speed,
-    },
-    Row {
-        command: 0x21,
-        length: 5,
-        kind: Kind::Trip,
-    },
-    Row {
-        command: 0x22,
-        length: 5,
-        kind: Kind::Total,
-    },
-    Row {
-        command: 0x25,
-        length: 7,
-        kind: Kind::Logs,
-    },
-    Row {
-        command: 0x26,
-        length: 7,
-        kind: Kind::Speeds,
-    },
-    Row {
-        command: 0x27,
-        length: 4,
-        kind: Kind::Water,
-    },
-    Row {
-        command: 0x30,
-        length: 3,
-        kind: Kind::Lamp,
-    },
-    Row {
-        command: 0x50,
-        length: 5,
-        kind: Kind::Latitude,
-    },
-    Row {
-        command: 0x51,
-        length: 5,
-        kind: Kind::Longitude,
-    },
-    Row {
-        command: 0x52,
-        length: 4,
-        kind: Kind::Ground,
-    },
-    Row {
-        command: 0x53,
-        length: 3,
-        kind: Kind::Course,
-    },
-    Row {
-        command: 0x54,
-        length: 4,
-        kind: Kind::Time,
-    },
-    Row {
-        command: 0x56,
-        length: 4,
-        kind: Kind::Date,
-    },
-    Row {
-        command: 0x86,
-        length: 4,
-        kind: Kind::Key,
-    },
-    Row {
-        command: 0x89,
-        length: 5,
-        kind: Kind::Heading,
-    },
-    Row {
-        command: 0x99,
-        length: 3,
-        kind: Kind::Variation,
-    },
-    Row {
-        command: 0x9C,
-        length: 4,
-        kind: Kind::Turn,
-    },
-];
+// A row as what was found.
+fn found(command: u8, length: u8, kind: Kind) -> Lookup
+    ensures { λ r. ⌜ r ≡ Lookup.Found (row command length kind) ⌝ }
+{
+    Lookup::Found(Row {
+        command: command,
+        length: length,
+        kind: kind,
+    })
+}
 
-// The table's row for a command.
+// The table's row for a command: the one table of kinds, in the order of their commands.
 pub fn find(command: u8) -> Lookup
     ensures { λ r. ⌜ r ≡ findOf command ⌝ }
 {
-    // Copied once: an index of the constant itself would lay the table out at every turn.
-    let table = KINDS;
-    let mut i = 0;
-    while i < 20 {
-        let row = table[i];
-        if row.command == command {
-            return Lookup::Found(row);
-        }
-        i += 1;
+    match command {
+        0x00 => found(0x00, 5, Kind::Depth),
+        0x10 => found(0x10, 4, Kind::WindAngle),
+        0x11 => found(0x11, 4, Kind::WindSpeed),
+        0x20 => found(0x20, 4, Kind::Speed),
+        0x21 => found(0x21, 5, Kind::Trip),
+        0x22 => found(0x22, 5, Kind::Total),
+        0x25 => found(0x25, 7, Kind::Logs),
+        0x26 => found(0x26, 7, Kind::Speeds),
+        0x27 => found(0x27, 4, Kind::Water),
+        0x30 => found(0x30, 3, Kind::Lamp),
+        0x50 => found(0x50, 5, Kind::Latitude),
+        0x51 => found(0x51, 5, Kind::Longitude),
+        0x52 => found(0x52, 4, Kind::Ground),
+        0x53 => found(0x53, 3, Kind::Course),
+        0x54 => found(0x54, 4, Kind::Time),
+        0x56 => found(0x56, 4, Kind::Date),
+        0x86 => found(0x86, 4, Kind::Key),
+        0x89 => found(0x89, 5, Kind::Heading),
+        0x99 => found(0x99, 3, Kind::Variation),
+        0x9C => found(0x9C, 4, Kind::Turn),
+        _ => Lookup::Unknown,
     }
-    Lookup::Unknown
 }
