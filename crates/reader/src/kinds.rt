@@ -1,4 +1,5 @@
-// Each kind's bytes, named by document 01's letters, as a message.
+// Each kind's bytes, named by document 01's letters, as a message whose fields are in range. Where no test is made the
+// bytes cannot spell a field out of range.
 use angle::half_angle;
 use angle::turns_right;
 use angle::whole_angle;
@@ -12,9 +13,10 @@ use number::signed_byte;
 use number::word_of;
 ghost use mathlib.Core.Path.{_≡_};
 ghost use Rattle.message.specs.Decode.{depthOf, windAngleOf, windSpeedOf, speedOf, tripOf, totalOf, logsOf, speedsOf, waterOf, lampOf, latitudeOf, longitudeOf, groundOf, courseOf, timeOf, dateOf, keyOf, headingOf, variationOf, turnOf};
+ghost use Rattle.message.specs.Reading.{judged};
 
 pub fn depth(yz: u8, low: u8, high: u8) -> Reading
-    ensures { λ r. ⌜ r ≡ depthOf yz low high ⌝ }
+    ensures { λ r. ⌜ r ≡ judged (depthOf yz low high) ⌝ }
 {
     Reading::Read(Message::Depth {
         tenths: word_of(low, high),
@@ -27,15 +29,17 @@ pub fn depth(yz: u8, low: u8, high: u8) -> Reading
 }
 
 pub fn wind_angle(xx: u8, yy: u8) -> Reading
-    ensures { λ r. ⌜ r ≡ windAngleOf xx yy ⌝ }
+    ensures { λ r. ⌜ r ≡ judged (windAngleOf xx yy) ⌝ }
 {
-    Reading::Read(Message::WindAngle {
-        halves: 256 * (xx as u32) + yy as u32,
-    })
+    let halves = 256 * (xx as u32) + yy as u32;
+    if 719 < halves {
+        return Reading::Refused(out_of_range(1));
+    }
+    Reading::Read(Message::WindAngle { halves: halves })
 }
 
 pub fn wind_speed(xx: u8, y: u8) -> Reading
-    ensures { λ r. ⌜ r ≡ windSpeedOf xx y ⌝ }
+    ensures { λ r. ⌜ r ≡ judged (windSpeedOf xx y) ⌝ }
 {
     if y % 16 <= 9 {
         Reading::Read(Message::WindSpeed {
@@ -48,7 +52,7 @@ pub fn wind_speed(xx: u8, y: u8) -> Reading
 }
 
 pub fn speed(low: u8, high: u8) -> Reading
-    ensures { λ r. ⌜ r ≡ speedOf low high ⌝ }
+    ensures { λ r. ⌜ r ≡ judged (speedOf low high) ⌝ }
 {
     Reading::Read(Message::Speed {
         tenths: word_of(low, high),
@@ -56,7 +60,7 @@ pub fn speed(low: u8, high: u8) -> Reading
 }
 
 pub fn trip(low: u8, high: u8, x: u8) -> Reading
-    ensures { λ r. ⌜ r ≡ tripOf low high x ⌝ }
+    ensures { λ r. ⌜ r ≡ judged (tripOf low high x) ⌝ }
 {
     Reading::Read(Message::Trip {
         hundredths: low as u32 + 256 * (high as u32) + 65536 * (x as u32 % 16),
@@ -64,7 +68,7 @@ pub fn trip(low: u8, high: u8, x: u8) -> Reading
 }
 
 pub fn total(low: u8, high: u8) -> Reading
-    ensures { λ r. ⌜ r ≡ totalOf low high ⌝ }
+    ensures { λ r. ⌜ r ≡ judged (totalOf low high) ⌝ }
 {
     Reading::Read(Message::Total {
         tenths: word_of(low, high),
@@ -72,7 +76,7 @@ pub fn total(low: u8, high: u8) -> Reading
 }
 
 pub fn logs(z4: u8, xx: u8, yy: u8, uu: u8, vv: u8, aw: u8) -> Reading
-    ensures { λ r. ⌜ r ≡ logsOf z4 xx yy uu vv aw ⌝ }
+    ensures { λ r. ⌜ r ≡ judged (logsOf z4 xx yy uu vv aw) ⌝ }
 {
     Reading::Read(Message::Logs {
         total: xx as u32 + 256 * (yy as u32) + 65536 * (z4 as u32 / 16),
@@ -81,7 +85,7 @@ pub fn logs(z4: u8, xx: u8, yy: u8, uu: u8, vv: u8, aw: u8) -> Reading
 }
 
 pub fn speeds(xl: u8, xh: u8, yl: u8, yh: u8, de: u8) -> Reading
-    ensures { λ r. ⌜ r ≡ speedsOf xl xh yl yh de ⌝ }
+    ensures { λ r. ⌜ r ≡ judged (speedsOf xl xh yl yh de) ⌝ }
 {
     Reading::Read(Message::Speeds {
         speed: word_of(xl, xh),
@@ -93,7 +97,7 @@ pub fn speeds(xl: u8, xh: u8, yl: u8, yh: u8, de: u8) -> Reading
 }
 
 pub fn water(low: u8, high: u8) -> Reading
-    ensures { λ r. ⌜ r ≡ waterOf low high ⌝ }
+    ensures { λ r. ⌜ r ≡ judged (waterOf low high) ⌝ }
 {
     Reading::Read(Message::Water {
         tenths: difference(low as u16 + 256 * (high as u16), 100),
@@ -101,7 +105,7 @@ pub fn water(low: u8, high: u8) -> Reading
 }
 
 pub fn lamp(x: u8) -> Reading
-    ensures { λ r. ⌜ r ≡ lampOf x ⌝ }
+    ensures { λ r. ⌜ r ≡ judged (lampOf x) ⌝ }
 {
     if x % 4 == 0 {
         Reading::Read(Message::Lamp {
@@ -113,27 +117,41 @@ pub fn lamp(x: u8) -> Reading
 }
 
 pub fn latitude(xx: u8, low: u8, high: u8) -> Reading
-    ensures { λ r. ⌜ r ≡ latitudeOf xx low high ⌝ }
+    ensures { λ r. ⌜ r ≡ judged (latitudeOf xx low high) ⌝ }
 {
+    let hundredths = word_of(low, high % 128);
+    if 90 < xx {
+        return Reading::Refused(out_of_range(1));
+    }
+    if 5999 < hundredths {
+        return Reading::Refused(out_of_range(2));
+    }
     Reading::Read(Message::Latitude {
         degrees: xx as u32,
-        hundredths: word_of(low, high % 128),
+        hundredths: hundredths,
         south: high / 128 % 2 == 1,
     })
 }
 
 pub fn longitude(xx: u8, low: u8, high: u8) -> Reading
-    ensures { λ r. ⌜ r ≡ longitudeOf xx low high ⌝ }
+    ensures { λ r. ⌜ r ≡ judged (longitudeOf xx low high) ⌝ }
 {
+    let hundredths = word_of(low, high % 128);
+    if 180 < xx {
+        return Reading::Refused(out_of_range(1));
+    }
+    if 5999 < hundredths {
+        return Reading::Refused(out_of_range(2));
+    }
     Reading::Read(Message::Longitude {
         degrees: xx as u32,
-        hundredths: word_of(low, high % 128),
+        hundredths: hundredths,
         east: high / 128 % 2 == 1,
     })
 }
 
 pub fn ground(low: u8, high: u8) -> Reading
-    ensures { λ r. ⌜ r ≡ groundOf low high ⌝ }
+    ensures { λ r. ⌜ r ≡ judged (groundOf low high) ⌝ }
 {
     Reading::Read(Message::Ground {
         tenths: word_of(low, high),
@@ -141,7 +159,7 @@ pub fn ground(low: u8, high: u8) -> Reading
 }
 
 pub fn course(u0: u8, vw: u8) -> Reading
-    ensures { λ r. ⌜ r ≡ courseOf u0 vw ⌝ }
+    ensures { λ r. ⌜ r ≡ judged (courseOf u0 vw) ⌝ }
 {
     if vw % 64 <= 44 {
         Reading::Read(Message::Course {
@@ -153,27 +171,54 @@ pub fn course(u0: u8, vw: u8) -> Reading
 }
 
 pub fn time(t1: u8, rs: u8, hh: u8) -> Reading
-    ensures { λ r. ⌜ r ≡ timeOf t1 rs hh ⌝ }
+    ensures { λ r. ⌜ r ≡ judged (timeOf t1 rs hh) ⌝ }
 {
+    let minutes = rs as u32 / 4;
+    let seconds = rs as u32 % 4 * 16 + t1 as u32 / 16;
+    if 23 < hh {
+        return Reading::Refused(out_of_range(1));
+    }
+    if 59 < minutes {
+        return Reading::Refused(out_of_range(2));
+    }
+    if 59 < seconds {
+        return Reading::Refused(out_of_range(3));
+    }
     Reading::Read(Message::Time {
         hours: hh as u32,
-        minutes: rs as u32 / 4,
-        seconds: rs as u32 % 4 * 16 + t1 as u32 / 16,
+        minutes: minutes,
+        seconds: seconds,
     })
 }
 
 pub fn date(m1: u8, dd: u8, yy: u8) -> Reading
-    ensures { λ r. ⌜ r ≡ dateOf m1 dd yy ⌝ }
+    ensures { λ r. ⌜ r ≡ judged (dateOf m1 dd yy) ⌝ }
 {
+    let month = m1 as u32 / 16;
+    if month < 1 {
+        return Reading::Refused(out_of_range(1));
+    }
+    if 12 < month {
+        return Reading::Refused(out_of_range(1));
+    }
+    if dd < 1 {
+        return Reading::Refused(out_of_range(2));
+    }
+    if 31 < dd {
+        return Reading::Refused(out_of_range(2));
+    }
+    if 99 < yy {
+        return Reading::Refused(out_of_range(3));
+    }
     Reading::Read(Message::Date {
-        month: m1 as u32 / 16,
+        month: month,
         day: dd as u32,
         year: yy as u32,
     })
 }
 
 pub fn key(x1: u8, code: u8, repeat: u8) -> Reading
-    ensures { λ r. ⌜ r ≡ keyOf x1 code repeat ⌝ }
+    ensures { λ r. ⌜ r ≡ judged (keyOf x1 code repeat) ⌝ }
 {
     if code as u32 + repeat as u32 == 255 {
         Reading::Read(Message::Key {
@@ -186,7 +231,7 @@ pub fn key(x1: u8, code: u8, repeat: u8) -> Reading
 }
 
 pub fn heading(u2: u8, vw: u8, xy: u8, z: u8) -> Reading
-    ensures { λ r. ⌜ r ≡ headingOf u2 vw xy z ⌝ }
+    ensures { λ r. ⌜ r ≡ judged (headingOf u2 vw xy z) ⌝ }
 {
     if 44 < vw % 64 {
         return Reading::Refused(out_of_range(1));
@@ -202,7 +247,7 @@ pub fn heading(u2: u8, vw: u8, xy: u8, z: u8) -> Reading
 }
 
 pub fn variation(xx: u8) -> Reading
-    ensures { λ r. ⌜ r ≡ variationOf xx ⌝ }
+    ensures { λ r. ⌜ r ≡ judged (variationOf xx) ⌝ }
 {
     Reading::Read(Message::Variation {
         east: negated_byte(xx),
@@ -210,7 +255,7 @@ pub fn variation(xx: u8) -> Reading
 }
 
 pub fn turn(u1: u8, vw: u8, rr: u8) -> Reading
-    ensures { λ r. ⌜ r ≡ turnOf u1 vw rr ⌝ }
+    ensures { λ r. ⌜ r ≡ judged (turnOf u1 vw rr) ⌝ }
 {
     if vw % 64 <= 44 {
         let u = u1 / 16;

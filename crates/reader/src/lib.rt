@@ -7,7 +7,6 @@ use datagram::WRONG_LENGTH;
 use message::Kind;
 use message::Lookup;
 use message::Reading;
-use message::Verdict;
 ghost use mathlib.Core.Path.{_≡_};
 ghost use lib.ListN.{getD};
 ghost use Rattle.message.specs.Reading.{readOf, readKind, readAs, readSized, judged};
@@ -48,28 +47,15 @@ pub fn read_sized(kind: Kind, length: u8, bytes: &[u8]) -> Reading
     ensures { λ r. ⌜ r ≡ readSized kind length (now (bytes .entry)) ⌝ }
 {
     if bytes.len() == length as usize {
-        judge(read_kind(kind, bytes))
+        read_kind(kind, bytes)
     } else {
         Reading::Refused(WRONG_LENGTH)
     }
 }
 
-// What was read stands if its fields are in range.
-fn judge(reading: Reading) -> Reading
-    ensures { λ r. ⌜ r ≡ judged reading ⌝ }
-{
-    match reading {
-        Reading::Refused(r) => Reading::Refused(r),
-        Reading::Read(m) => match message::range::range_of(m) {
-            Verdict::InRange => Reading::Read(m),
-            Verdict::Refused(r) => Reading::Refused(r),
-        },
-    }
-}
-
-// What the bytes of a datagram of this kind say.
+// What the bytes of a datagram of this kind say, if its fields are in range.
 fn read_kind(kind: Kind, bytes: &[u8]) -> Reading
-    ensures { λ r. ⌜ r ≡ readKind kind (now (bytes .entry)) ⌝ }
+    ensures { λ r. ⌜ r ≡ judged (readKind kind (now (bytes .entry))) ⌝ }
 {
     match kind {
         Kind::Depth => kinds::depth(byte_at(bytes, 2), byte_at(bytes, 3), byte_at(bytes, 4)),

@@ -1,10 +1,12 @@
--- `course` makes the definition's test of the six bits.
+-- `course` makes the definition's test of the six bits; what they and a digit spell is in range.
 use borrow.Author.Needs.{needs}
 use borrow.Author.Tests.{le-leb, lt-leb}
 use mathlib.Core.Path.{ap}
-use Rattle.message.specs.declared.Reading.the-variants.{Read, Refused}
-use Rattle.message.specs.declared.Message.the-variants.{Course}
-use Prim.Native.Nat.{ℕ}
+use Prim.Native.Nat.{_/_, _%_}
+use native.Mathlib.Omega.{arith}
+use Rattle.message.specs.declared.Reading.the-variants.{Refused}
+use Rattle.message.specs.Range.{rangeOf}
+use Rattle.reader.proofs.Limits.{half-fits}
 use Rattle.reader.proofs.kinds.course.Statement.{statement}
 use Rattle.reader.proofs.kinds.course.Tie as tie
 
@@ -15,7 +17,14 @@ out-of-range-requires : tie.Need-out-of-range-requires
 out-of-range-requires c κs = search needs
 
 returns : tie.Need-returns
-returns c = rw (le-leb _ _ (c .before .if1 .taken)) (ap (λ (h : ℕ). Read (Course h)) (c .half-angle .ensures))
+unfolding rangeOf
+returns c =
+    let a = c .before .before .args in
+    rw (
+      le-leb (a .vw % 64) 44 (omega arith),
+      c .half-angle .ensures,
+      half-fits (a .u0 / 16) (a .vw % 64) (omega arith) (omega arith),
+    )
 
 returns-2 : tie.Need-returns-2
 returns-2 c = rw (lt-leb _ _ (c .before .if1 .left)) (ap Refused (c .out-of-range .ensures))
