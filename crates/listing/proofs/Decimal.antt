@@ -1,6 +1,6 @@
 -- Numbers in decimal: how many digits there are, and the digits from the right.
 use mathlib.Core.Path.{_≡_, refl, ap, _∙_}
-use mathlib.Core.List.{List, [], _∷_, _++_}
+use mathlib.Core.List.{List, [], _∷_, _++_, append-assoc}
 use mathlib.Core.Bool.{Bool, true, false, cond}
 use Prim.Native.Nat.{ℕ, zero, suc, _+_, _*_, _-_, _/_, _%_, _≤_, _<_}
 use native.Mathlib.Omega.{arith}
@@ -55,6 +55,21 @@ length-by (suc k) (suc fuel) n later f l h =
 pub decimal-length : (k n : ℕ) → k < 20 → from k ≤ n → n < to k → suc k ≡ length (decimal n)
 unfolding decimal
 decimal-length k n f l h = omega (arith, length-by k 20 n [] f l h)
+
+-- a number below `to k` has at most k digits more than one
+length-most : (k fuel n : ℕ) (later : List ℕ) → n < to k → length (decimalBy fuel n later) ≤ suc k + length later
+length-most k zero n later h = omega arith
+length-most zero (suc fuel) n later h = rw (lt-ltb n 10 h) (omega arith)
+length-most (suc k) (suc fuel) n later h = go (ltb n 10) (length-most k fuel (n / 10) ((48 + n % 10) ∷ later) (omega arith))
+  where
+    go : (t : Bool) → length (decimalBy fuel (n / 10) ((48 + n % 10) ∷ later)) ≤ suc k + length ((48 + n % 10) ∷ later)
+        → length (cond t ((48 + n) ∷ later) (decimalBy fuel (n / 10) ((48 + n % 10) ∷ later))) ≤ suc (suc k) + length later
+    go true b = omega arith
+    go false b = omega arith
+
+pub decimal-below : (k n : ℕ) → n < to k → length (decimal n) ≤ suc k
+unfolding decimal
+decimal-below k n h = omega (arith, length-most k 20 n [] h)
 
 -- the digits of n that stand from e on are stored, and those of m are left
 pub record Partly (before : List ℕ) (at n : ℕ) (out : List ℕ) (e m : ℕ) : Type 0 where
@@ -117,6 +132,16 @@ pub decimal-hundreds : (n : ℕ) → 100 ≤ n → n < to 17 → decimal n ≡ d
 unfolding decimal
 decimal-hundreds n g h =
     two-by 18 n [] g ∙ by-enough 17 18 20 (n / 100) [] (pairOf (n % 100)) (omega arith) (omega arith) (omega arith)
+
+-- the ten thousands, and then the last four digits, two and two
+pub decimal-myriads : (n : ℕ) → 10000 ≤ n → n < to 17
+    → decimal n ≡ decimal (n / 10000) ++ (pairOf (n % 10000 / 100) ++ pairOf (n % 10000 % 100))
+decimal-myriads n g h =
+    let a : n / 100 / 100 ≡ n / 10000 = omega arith in
+    let b : n / 100 % 100 ≡ n % 10000 / 100 = omega arith in
+    let c : n % 100 ≡ n % 10000 % 100 = omega arith in
+    decimal-hundreds n (omega arith) h
+    ∙ rw (decimal-hundreds (n / 100) (omega arith) (omega arith), a, b, c, append-assoc)
 
 -- two stores before others
 pair-sets : (l : List ℕ) (i j x y : ℕ) (xs : List ℕ) → j ≡ suc (suc i) → sets (sets l j xs) i (x ∷ y ∷ []) ≡ sets l i (x ∷ y ∷ xs)

@@ -8,10 +8,8 @@ use borrow.Author.Tests.{le-leb, eq-eqb, ne-eqb}
 use lib.ListN.{length, getD, set, length-set}
 use lib.Seq.{getD-set-same, getD-set-other}
 use Rattle.number.specs.Word.{word}
-use Rattle.datagram.specs.Whole.{declared}
 use Rattle.recording.specs.declared.Record.the-variants.{Heard}
 use Rattle.recording.specs.Record.{recordOf, byteOf, timeAt, symbolAt}
-use Rattle.listing.specs.Taken.{Ahead}
 
 -- a record with the mark, and a symbol of this byte with the command bit, 1, or without it, 0
 pub carried : (s : List ℕ) (at command : ℕ) → at + 8 ≤ length s → command ≤ 1
@@ -21,6 +19,10 @@ unfolding recordOf
 carried s at command h one mark first low high =
     let symbol : symbolAt s at ≡ 256 * command + byteOf s at 6 = omega arith in
     rw (le-leb at (length s) (omega arith), ne-eqb (length s) at (λ e. omega arith), le-leb 8 (length s - at) (omega arith), eq-eqb (getD s at 0) 0x53 (omega arith), eq-eqb (byteOf s at 1) 0x54 (omega arith), symbol, le-leb (256 * command + byteOf s at 6) 511 (omega arith))
+
+-- a byte without the command bit
+pub plain : {b : ℕ} → 256 * 0 + b ≡ b
+plain {b} = omega arith
 
 -- the first i records carry these bytes, the first with the command bit
 pub record Gathering (s : List ℕ) (at : ℕ) (bytes : List ℕ) (i : ℕ) : Type 0 where
@@ -54,22 +56,8 @@ module _ (s : List ℕ) (at : ℕ) (bytes : List ℕ) where
       Follows j b =
           (b ≡ byteOf s (at + 8 * j) 6) × (b < 256) × (recordOf s (at + 8 * j) ≡ Heard (timeAt s (at + 8 * j)) b)
 
-      plain : 256 * 0 + byteOf s (at + 8 * i) 6 ≡ byteOf s (at + 8 * i) 6
-      plain = omega arith
-
       go : (j : ℕ) → 0 < j → j < i + 1 → Dec (j ≡ i) → Follows j (getD (set bytes i (byteOf s (at + 8 * i) 6)) j 0)
       go j l h (yes q) =
           rw (q, getD-set-same bytes i (byteOf s (at + 8 * i) 6) 0 (omega (arith, g .long))) (refl, low, rw plain at e)
       go j l h (no d) =
           rw (getD-set-other bytes i j (byteOf s (at + 8 * i) 6) 0 d) (g .follows j l (omega (arith, d)))
-
-  -- all that the second byte declares are there
-  pub gathered-all : (n : ℕ) → Gathering s at bytes n → 1 < n → n ≡ declared (byteOf s at 14) → Ahead s at n bytes
-  gathered-all n g two e =
-      let second : getD bytes 1 0 ≡ byteOf s at 14 = g .follows 1 (omega arith) two .0 ∙ ap (λ (k : ℕ). getD s k 0) (omega arith) in
-      record {
-        opens = g .opens;
-        first = g .first;
-        follows = λ i l h. (g .follows i l h .1, g .follows i l h .2);
-        reaches = e ∙ ap declared (sym second);
-      }

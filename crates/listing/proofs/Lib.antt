@@ -3,10 +3,12 @@ pub mod Decimal
 pub mod Gathering
 pub mod Handed
 pub mod Lines
+pub mod OfKind
 pub mod Pairs
 pub mod Put
 pub mod Short
 pub mod Sign
 pub mod Spaced
 pub mod Takes
+pub mod Times
 pub mod Walks

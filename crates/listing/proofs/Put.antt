@@ -1,11 +1,11 @@
 -- Text put into a buffer: piece after piece, a store, and the buffer's length.
 use mathlib.Core.Path.{_≡_, refl, ap, _∙_}
 use mathlib.Core.List.{List, [], _∷_, _++_}
-use Prim.Native.Nat.{ℕ, suc, _+_, _<_}
+use Prim.Native.Nat.{ℕ, zero, suc, _+_, _≤_, _<_}
 use native.Mathlib.Nat.{add-zero}
 use native.Mathlib.Omega.{arith}
-use lib.ListN.{length, set, length-append}
-use lib.Seq.{sets, length-sets, set-comm}
+use lib.ListN.{length, take, set, length-append}
+use lib.Seq.{sets, length-sets, set-comm, set-set}
 use Rattle.listing.specs.Text.{Put, Placed}
 
 sets-append : (l : List ℕ) (i : ℕ) (xs ys : List ℕ) → sets l i (xs ++ ys) ≡ sets (sets l i xs) (i + length xs) ys
@@ -45,3 +45,19 @@ set-sets l i j x [] h = refl
 set-sets l i j x (y ∷ ys) h =
     set-sets (set l j y) i (suc j) x ys (omega arith)
     ∙ ap (λ (k : List ℕ). sets k (suc j) ys) (set-comm l j i y x (λ e. omega arith))
+
+-- what is stored over later stores of the first text is not seen
+pub overlaid : (l : List ℕ) (at k : ℕ) (xs ys : List ℕ) → k ≤ length xs → length xs ≤ k + length ys
+    → sets (sets l at xs) (at + k) ys ≡ sets l at (take k xs ++ ys)
+overlaid l at zero [] ys h g = rw add-zero
+overlaid l at (suc k) [] ys h g = absurd (omega arith)
+overlaid l at zero (x ∷ xs) [] h g = absurd (omega arith)
+overlaid l at zero (x ∷ xs) (y ∷ ys) h g =
+    let e : at + 0 ≡ at = omega arith in
+    let f : suc at + 0 ≡ suc at = omega arith in
+    let over : set (sets (set l at x) (suc at) xs) at y ≡ sets (set l at y) (suc at) xs =
+    set-sets (set l at x) at (suc at) y xs (omega arith) ∙ ap (λ (k : List ℕ). sets k (suc at) xs) (set-set l at x y) in
+    rw (e, over) (rw f at (overlaid (set l at y) (suc at) zero xs ys (omega arith) (omega arith)))
+overlaid l at (suc k) (x ∷ xs) ys h g =
+    let e : suc at + k ≡ at + suc k = omega arith in
+    rw e at (overlaid (set l at x) (suc at) k xs ys (omega arith) (omega arith))

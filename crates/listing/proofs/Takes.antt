@@ -1,10 +1,11 @@
--- What one record gives: the line of the datagram that it completes, nothing, or the end; and a datagram ahead is whole.
+-- What is taken at a time is what the walk takes.
 use mathlib.Core.Path.{_≡_, refl, sym, ap, _∙_}
-use mathlib.Core.Bool.{Bool, true, false, cond, false≢true}
+use mathlib.Core.Bool.{Bool, true, false, cond}
 use mathlib.Core.List.{List, []}
-use Prim.Native.Nat.{ℕ, _≤_, _<_}
+use Prim.Native.Nat.{ℕ, _+_, _-_, _*_, _≤_, _<_}
+use native.Mathlib.Nat.{sub-zero}
 use native.Mathlib.Omega.{arith}
-use borrow.Author.Tests.{eq-eqb, ne-eqb, eqb-false, ltb-true}
+use borrow.Author.Tests.{ne-eqb, lt-ltb, ltb-true}
 use lib.Dec.{eqb, ltb}
 use lib.ListN.{length, getD, take}
 use lib.Seq.{getD-take, length-take-le}
@@ -15,89 +16,163 @@ use Rattle.listener.specs.Step.{hearOf}
 use Rattle.listener.specs.declared.Listener.{Listener}
 use Rattle.listener.specs.declared.Heard.{Heard}
 use Rattle.recording.specs.declared.Record.the-variants as record-case
-use Rattle.recording.specs.Record.{recordOf}
+use Rattle.recording.specs.Record.{recordOf, timeAt, byteOf}
 use Rattle.progress.specs.declared.Progress.{Progress}
 use Rattle.progress.specs.declared.Stop.{Stop}
-use Rattle.progress.specs.declared.Stop.the-variants.{Running}
+use Rattle.listing.specs.declared.block.Gathered.{Gathered}
 use Rattle.listing.specs.declared.block.Taken.{Taken}
-use Rattle.listing.specs.Text.{Put}
 use Rattle.listing.specs.Line.{lineOf}
-use Rattle.progress.specs.Progress.{advanced, isHanded}
-use Rattle.listing.specs.Walk.{walk, walkFrom}
-use Rattle.listing.specs.Taken.{Ahead, Took, heardText}
+use Rattle.progress.specs.Progress.{advanced, tallied, isHanded}
+use Rattle.listing.specs.Walk.{walk, behind, walkFrom}
+use Rattle.listing.specs.Taken.{Gave, Took, entry}
+use Rattle.listing.proofs.Ahead.{walk-stray, walk-cancelled, walk-ahead}
+use Rattle.listing.proofs.Gathering.{Gathering}
 use Rattle.listing.proofs.Handed.{hands, declared-whole}
-use Rattle.listing.proofs.Spaced.{take-most}
-use Rattle.listing.proofs.Walks.{walk-heard}
-use Rattle.listing.proofs.Put.{put-nothing}
 use Rattle.listing.proofs.Short.{line-short}
+use Rattle.listing.proofs.Walks.{walk-heard}
+
+-- where no record is used, nothing is said
+pub unused : {A : Type 0} {g : Gathered} → g ≡ record { used = 0; count = 0; cancelled = false; stray = false } → 0 < g .used → A
+unused {A} {g} e h = absurd (omega (arith, rw e at h))
+
+-- records that put no text
+module _ {s bytes : List ℕ} {at left used : ℕ} {cancelled stray : Bool} where
+  silently : used ≤ left
+      → ((p : Progress) (room : ℕ) → p .listener ≡ holding [] → 512 ≤ room
+      → walkFrom left s at p room ≡ walkFrom (left - used) s (at + 8 * used) (tallied p false cancelled stray) room)
+      → (g : Gathered) → g ≡ record { used = used; count = 0; cancelled = cancelled; stray = stray } → Gave s at left bytes g
+  silently fits goes g e =
+      rw e
+      (record {
+        fits = fits;
+        most = omega arith;
+        handed = λ h. absurd (omega arith);
+        goes = λ p room idle roomy. goes p room idle roomy ∙ rw sub-zero;
+      })
+
+module _ {s bytes : List ℕ} {at left : ℕ} where
+  pub gave-stray : (b : ℕ) → 0 < left → b < 256 → recordOf s at ≡ record-case.Heard (timeAt s at) b
+      → (g : Gathered) → g ≡ record { used = 1; count = 0; cancelled = false; stray = true } → Gave s at left bytes g
+  gave-stray b some low heard =
+      silently (omega arith) (λ p room idle roomy. walk-stray s at left room some roomy (timeAt s at) p b low heard idle)
+
+module _ {s bytes : List ℕ} {at left m n : ℕ} (a : Gathering s at bytes m) (size : n ≡ declared (byteOf s at 14)) (fits : n ≤ left) where
+  pub gave-cancelled : (b : ℕ) → 0 < m → m < n → b < 256 → recordOf s (at + 8 * m) ≡ record-case.Heard (timeAt s (at + 8 * m)) (256 + b)
+      → (g : Gathered) → g ≡ record { used = m; count = 0; cancelled = true; stray = false } → Gave s at left bytes g
+  gave-cancelled b some below low heard =
+      silently (omega arith)
+      (λ p room idle roomy. walk-cancelled s at m n bytes a size (omega arith) p left room (omega arith) roomy idle some below (omega arith) (timeAt s (at + 8 * m)) b low heard)
+
+  pub gave-whole : m ≡ n → (g : Gathered) → g ≡ record { used = n; count = n; cancelled = false; stray = false } → Gave s at left bytes g
+  gave-whole all g e =
+      let long : length (take n bytes) ≡ n = length-take-le n bytes (omega (arith, size, a .long)) in
+      let second : getD bytes 1 0 ≡ byteOf s at 14 = a .follows 1 (omega arith) (omega (arith, size)) .0 ∙ ap (λ (k : ℕ). getD s k 0) (omega arith) in
+      let declares : length (take n bytes) ≡ declared (getD (take n bytes) 1 0) =
+      long ∙ size ∙ ap declared (sym (getD-take n bytes 1 0 (omega (arith, size)) ∙ second)) in
+      rw e
+      (record {
+        fits = fits;
+        most = omega (arith, size);
+        handed = λ h. declared-whole (take n bytes) declares;
+        goes = λ p room idle roomy.
+            walk-ahead s at m n bytes a size (omega arith) p left room (omega arith) roomy idle all
+            ∙ rw (lt-ltb 0 n (omega (arith, size)), ne-eqb (length (take n bytes)) 0 (λ z. omega (arith, size, long)));
+      })
 
 -- what was handed out has bytes, and what was not has none
 module _ (time symbol : ℕ) (l : Listener) where
   abbrev h : Heard
   h = hearOf l symbol
 
-  abbrev line : List ℕ
-  line = lineOf time (take (h .count) (h .bytes))
+  abbrev out : List ℕ
+  out = take (h .count) (h .bytes)
 
-  some-bytes : isHanded (h .answer) ≡ true → 0 < h .count
-  some-bytes e =
-      omega (arith, declares (take (h .count) (h .bytes)) (hands l symbol .0 e .1), take-most (h .count) (h .bytes))
+  entry-taken : (b : Bool) → isHanded (h .answer) ≡ b → cond b (lineOf time out) [] ≡ entry time out
+  entry-taken true e = rw (ne-eqb (length out) 0 (λ z. omega (arith, declares out (hands l symbol .0 e .1))))
+  entry-taken false e = rw (hands l symbol .1 e)
 
-  entry-taken : (b : Bool) → isHanded (h .answer) ≡ b → cond b line [] ≡ cond (eqb (h .count) 0) [] line
-  entry-taken true e = rw (ne-eqb (h .count) 0 (λ z. omega (arith, some-bytes e)))
-  entry-taken false e = rw (eq-eqb (h .count) 0 (hands l symbol .1 e))
+  most-heard : (b : Bool) → isHanded (h .answer) ≡ b → h .count ≤ 18
+  most-heard true e = hands l symbol .0 e .0
+  most-heard false e = omega (arith, hands l symbol .1 e)
 
   is-handed : (b : Bool) → isHanded (h .answer) ≡ b → 0 < h .count → isHanded (h .answer) ≡ true
   is-handed true e p = e
   is-handed false e p = absurd (omega (arith, hands l symbol .1 e))
 
--- what is handed out is whole, and leaves nothing held
-pub heard-whole : (time symbol : ℕ) (l : Listener) → 0 < hearOf l symbol .count
-    → (hearOf l symbol .count ≤ 18) × (whole (take (hearOf l symbol .count) (hearOf l symbol .bytes)) ≡ true) × (hearOf l symbol .listener ≡ holding [])
-heard-whole time symbol l some = hands l symbol .0 (is-handed time symbol l _ refl some)
-
--- its line fits in the room for one
-heard-short : (time symbol : ℕ) (l : Listener) → length (heardText time (hearOf l symbol)) ≤ 512
-heard-short time symbol l = go (eqb (hearOf l symbol .count) 0) refl
-  where
-    go : (b : Bool) → eqb (hearOf l symbol .count) 0 ≡ b → length (cond b [] (lineOf time (take (hearOf l symbol .count) (hearOf l symbol .bytes)))) ≤ 512
-    go true e = omega arith
-    go false e =
-        line-short time (take (hearOf l symbol .count) (hearOf l symbol .bytes)) (omega (arith, take-most (hearOf l symbol .count) (hearOf l symbol .bytes), heard-whole time symbol l (omega (arith, eqb-false (hearOf l symbol .count) 0 e)) .0))
-
--- a datagram ahead is whole
-pub ahead-whole : {s : List ℕ} {at n : ℕ} {bytes : List ℕ} → length bytes ≡ 18 → Ahead s at n bytes → (n ≤ 18) × (whole (take n bytes) ≡ true)
-ahead-whole {s} {at} {n} {bytes} long a =
-    let size : length (take n bytes) ≡ n = length-take-le n bytes (omega (arith, a .reaches)) in
-    let second : getD (take n bytes) 1 0 ≡ getD bytes 1 0 = getD-take n bytes 1 0 (omega (arith, a .reaches)) in
-    (omega (arith, a .reaches), declared-whole (take n bytes) (size ∙ a .reaches ∙ ap declared (sym second)))
-
-module _ {s : List ℕ} {at : ℕ} {p : Progress} {before : List ℕ} {place : ℕ} {after : List ℕ} where
-  pub took-one : (time symbol : ℕ) (t : Taken) (place′ : ℕ) → recordOf s at ≡ record-case.Heard time symbol
-      → Put before place (heardText time (hearOf (p .listener) symbol)) after place′
-      → t ≡ record { progress = advanced p (hearOf (p .listener) symbol); used = 1; place = place′; idle = ltb 0 (hearOf (p .listener) symbol .count); stop = Running }
-      → Took s at p before place after t
-  took-one time symbol t place′ heard put e =
+module _ {s : List ℕ} {at : ℕ} {p : Progress} where
+  pub took-one : (time symbol : ℕ) (t : Taken) → recordOf s at ≡ record-case.Heard time symbol
+      → t .progress ≡ advanced p (hearOf (p .listener) symbol) → t .used ≡ 1 → t .time ≡ time
+      → t .count ≡ hearOf (p .listener) symbol .count → t .bytes ≡ hearOf (p .listener) symbol .bytes
+      → length (t .bytes) ≡ 18 → Took s at p t
+  took-one time symbol t heard progress used at-time count bytes long =
       let l = p .listener in
-      rw e
-      (record {
-        text = heardText time (hearOf l symbol);
-        put = put;
-        short = heard-short time symbol l;
-        ends = λ z. absurd (omega arith);
-        goes = λ used left room some roomy. walk-heard s at p left room some time symbol roomy heard ∙ rw (entry-taken time symbol l _ refl);
-        idle = λ count. heard-whole time symbol l (ltb-true _ _ count) .2;
-      })
+      record {
+        long = λ one. long;
+        most = rw count (most-heard time symbol l _ refl);
+        handed = rw (count, bytes, progress) (λ some. let w = hands l symbol .0 (is-handed time symbol l _ refl some) in (w .1, w .2));
+        ends = λ z. absurd (omega (arith, used));
+        goes = λ one left room some roomy.
+            rw (count, bytes, progress, at-time)
+            (walk-heard s at p left room some time symbol roomy heard ∙ rw (entry-taken time symbol l _ refl));
+      }
 
   pub took-none : (stop : Stop) (t : Taken) → ((left room : ℕ) → 0 < left → 512 ≤ room → walkFrom left s at p room ≡ walk [] p at stop)
-      → after ≡ before → t ≡ record { progress = p; used = 0; place = place; idle = false; stop = stop } → Took s at p before place after t
-  took-none stop t ends same e =
-      rw e
+      → t .used ≡ 0 → t .count ≡ 0 → t .stop ≡ stop → Took s at p t
+  took-none stop t ends used count e =
+      record {
+        long = λ one. absurd (omega (arith, used));
+        most = omega (arith, count);
+        handed = λ some. absurd (omega (arith, count));
+        ends = λ z. rw e ends;
+        goes = λ one. absurd (omega (arith, used));
+      }
+
+-- a line, or nothing, fits in the room for a line
+pub entry-short : (time : ℕ) (bytes : List ℕ) → length bytes ≤ 18 → length (entry time bytes) ≤ 512
+entry-short time bytes h = go (eqb (length bytes) 0)
+  where
+    go : (b : Bool) → length (cond b [] (lineOf time bytes)) ≤ 512
+    go true = omega arith
+    go false = line-short time bytes h
+
+-- one turn: these records are used, in the way of the walk
+pub record Stepped (s : List ℕ) (at left : ℕ) (q : Progress) (room : ℕ) (bytes : List ℕ) (p : Progress) (idle : Bool) (used count time : ℕ) : Type 0 where
+  pub some : 0 < used
+  pub fits : used ≤ left
+  pub long : length bytes ≡ 18
+  pub most : count ≤ 18
+  pub handed : 0 < count → whole (take count bytes) ≡ true
+  pub rests : idle ≡ true → p .listener ≡ holding []
+  pub goes : walkFrom left s at q room
+      ≡ behind (entry time (take count bytes)) (walkFrom (left - used) s (at + 8 * used) p (room - length (entry time (take count bytes))))
+
+module _ {s : List ℕ} {at left room : ℕ} {q : Progress} (roomy : 512 ≤ room) {bytes : List ℕ} {p : Progress} {idle : Bool} {used count time : ℕ} where
+  pub stepped-gave : {stored : List ℕ} (g : Gathered) → Gave s at left stored g → length stored ≡ 18 → 0 < g .used → q .listener ≡ holding []
+      → bytes ≡ stored → p ≡ tallied q (ltb 0 (g .count)) (g .cancelled) (g .stray) → used ≡ g .used → count ≡ g .count
+      → time ≡ timeAt s (at + 8 * (g .used - 1)) → Stepped s at left q room bytes p idle used count time
+  stepped-gave g gave long some silent eb ep eu ec et =
+      rw (eb, ep, eu, ec, et)
       (record {
-        text = [];
-        put = rw same (put-nothing before place);
-        short = omega arith;
-        ends = λ z. (refl, ends);
-        goes = λ used. absurd (omega arith);
-        idle = λ count. absurd (false≢true count);
+        some = some;
+        fits = gave .fits;
+        long = long;
+        most = gave .most;
+        handed = gave .handed;
+        rests = λ e. silent;
+        goes = gave .goes q room silent roomy;
+      })
+
+  pub stepped-took : (t : Taken) → Took s at q t → 0 < t .used → 0 < left
+      → bytes ≡ t .bytes → p ≡ t .progress → idle ≡ ltb 0 (t .count) → used ≡ 1 → count ≡ t .count → time ≡ t .time
+      → Stepped s at left q room bytes p idle used count time
+  stepped-took t took some more eb ep ei eu ec et =
+      rw (eb, ep, ei, eu, ec, et)
+      (record {
+        some = omega arith;
+        fits = more;
+        long = took .long some;
+        most = took .most;
+        handed = λ h. took .handed h .0;
+        rests = λ e. took .handed (ltb-true _ _ e) .1;
+        goes = took .goes some left room more roomy;
       })

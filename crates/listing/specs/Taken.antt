@@ -1,39 +1,43 @@
--- What a block's listing takes at a time: the records of a datagram that lies whole ahead, or one record.
+-- What a block's listing takes at a time: records that an idle listener takes at once, or one record.
 use Prim.Native.Nat.{ℕ, _+_, _-_, _*_, _≤_, _<_}
 use mathlib.Core.Path.{_≡_}
 use mathlib.Core.Bool.{true, cond}
 use mathlib.Core.List.{List, []}
-use lib.Dec.{eqb}
-use lib.ListN.{length, getD, take}
-use Rattle.datagram.specs.Whole.{declared}
+use lib.Dec.{eqb, ltb}
+use lib.ListN.{length, take}
+use Rattle.datagram.specs.Whole.{whole}
 use Rattle.listener.specs.State.{holding}
-use Rattle.listener.specs.declared.Heard.{Heard}
-use Rattle.recording.specs.declared.Record.the-variants as record-case
-use Rattle.recording.specs.Record.{recordOf, timeAt}
+use Rattle.recording.specs.Record.{timeAt}
 use Rattle.progress.specs.declared.Progress.{Progress}
+use Rattle.progress.specs.Progress.{tallied}
+use Rattle.listing.specs.declared.block.Gathered.{Gathered}
 use Rattle.listing.specs.declared.block.Taken.{Taken}
-use Rattle.listing.specs.Text.{Put}
 use Rattle.listing.specs.Line.{lineOf}
 use Rattle.listing.specs.Walk.{walk, behind, walkFrom, lineRoom}
 
--- a whole datagram lies in the records from an offset on: a command symbol, and then the other bytes as they were declared
-pub record Ahead (s : List ℕ) (at n : ℕ) (bytes : List ℕ) : Type 0 where
-  pub opens : recordOf s at ≡ record-case.Heard (timeAt s at) (256 + getD bytes 0 0)
-  pub first : getD bytes 0 0 < 256
-  pub follows : (i : ℕ) → 0 < i → i < n → (getD bytes i 0 < 256) × (recordOf s (at + 8 * i) ≡ record-case.Heard (timeAt s (at + 8 * i)) (getD bytes i 0))
-  pub reaches : n ≡ declared (getD bytes 1 0)
+-- the line of the bytes that were handed out, if any were
+abbrev pub entry : ℕ → List ℕ → List ℕ
+entry time bytes = cond (eqb (length bytes) 0) [] (lineOf time bytes)
 
--- the line of the datagram that was handed out, if one was
-abbrev pub heardText : ℕ → Heard → List ℕ
-heardText time h = cond (eqb (h .count) 0) [] (lineOf time (take (h .count) (h .bytes)))
+-- a listener that holds nothing takes these records as the walk does, and holds nothing after them
+pub record Gave (s : List ℕ) (at left : ℕ) (bytes : List ℕ) (g : Gathered) : Type 0 where
+  pub fits : g .used ≤ left
+  pub most : g .count ≤ 18
+  pub handed : 0 < g .count → whole (take (g .count) bytes) ≡ true
+  pub goes : (p : Progress) (room : ℕ) → p .listener ≡ holding [] → lineRoom ≤ room
+      → walkFrom left s at p room
+      ≡ behind (entry (timeAt s (at + 8 * (g .used - 1))) (take (g .count) bytes))
+      (walkFrom (left - g .used) s (at + 8 * g .used)
+      (tallied p (ltb 0 (g .count)) (g .cancelled) (g .stray))
+      (room - length (entry (timeAt s (at + 8 * (g .used - 1))) (take (g .count) bytes))))
 
--- the walk ends here and nothing is put, or it goes on behind the text of the record that was used
-pub record Took (s : List ℕ) (at : ℕ) (p : Progress) (before : List ℕ) (place : ℕ) (after : List ℕ) (t : Taken) : Type 0 where
-  pub text : List ℕ
-  pub put : Put before place text after (t .place)
-  pub short : length text ≤ 512
-  pub ends : t .used ≡ 0
-      → (text ≡ []) × ((left room : ℕ) → 0 < left → lineRoom ≤ room → walkFrom left s at p room ≡ walk [] p at (t .stop))
+-- the walk ends here, or it goes on behind the text of the record that was used
+pub record Took (s : List ℕ) (at : ℕ) (p : Progress) (t : Taken) : Type 0 where
+  pub long : 0 < t .used → length (t .bytes) ≡ 18
+  pub most : t .count ≤ 18
+  pub handed : 0 < t .count → (whole (take (t .count) (t .bytes)) ≡ true) × (t .progress .listener ≡ holding [])
+  pub ends : t .used ≡ 0 → (left room : ℕ) → 0 < left → lineRoom ≤ room → walkFrom left s at p room ≡ walk [] p at (t .stop)
   pub goes : 0 < t .used → (left room : ℕ) → 0 < left → lineRoom ≤ room
-      → walkFrom left s at p room ≡ behind text (walkFrom (left - 1) s (at + 8) (t .progress) (room - length text))
-  pub idle : t .idle ≡ true → t .progress .listener ≡ holding []
+      → walkFrom left s at p room
+      ≡ behind (entry (t .time) (take (t .count) (t .bytes)))
+      (walkFrom (left - 1) s (at + 8) (t .progress) (room - length (entry (t .time) (take (t .count) (t .bytes)))))

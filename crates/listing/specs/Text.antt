@@ -5,7 +5,7 @@ use mathlib.Core.List.{List, [], _∷_, _++_}
 use Prim.Native.Nat.{ℕ, zero, suc, _+_, _/_, _%_}
 use lib.Dec.{leb, ltb}
 use lib.IntN.{ℤ, pos, negsuc}
-use lib.ListN.{length}
+use lib.ListN.{length, take}
 use lib.Seq.{sets}
 
 -- the decimal digits of n, most significant first, before what follows them; fuel bounds their number
@@ -56,6 +56,12 @@ spacedNumbers (z ∷ zs) = 32 ∷ (signedDecimal z ++ spacedNumbers zs)
 pub record Put (before : List ℕ) (at : ℕ) (text : List ℕ) (after : List ℕ) (next : ℕ) : Type 0 where
   pub stored : after ≡ sets before at text
   pub moved : next ≡ at + length text
+
+-- the digits of a number stand first among twenty bytes
+pub record Kept (bytes : List ℕ) (n count : ℕ) : Type 0 where
+  pub long : length bytes ≡ 20
+  pub shown : take count bytes ≡ decimal n
+  pub many : count ≡ length (decimal n)
 
 -- a buffer, and how many of its first bytes are text
 pub record Placed : Type 0 where

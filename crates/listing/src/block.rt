@@ -1,33 +1,49 @@
 // A block of a recording, listed record by record.
 use crate::Listed;
+use crate::Stamp;
 use crate::digit_pairs;
+use crate::keep;
 use crate::put_line;
-use listener::Heard;
 use number::word_of;
 use progress::Progress;
 use progress::Stop;
 use progress::advance;
-use progress::handed_out;
+use progress::tally;
 use recording::Record;
 ghost use mathlib.Core.Path.{_≡_};
-ghost use Prim.Native.Nat.{_+_, _-_, _*_, _≤_, _<_};
+ghost use Prim.Native.Nat.{_+_, _*_, _≤_, _<_};
 ghost use mathlib.Core.Bool.{true, false};
-ghost use lib.ListN.{length, take};
+ghost use lib.ListN.{length};
 ghost use Rattle.datagram.specs.Whole.{whole};
 ghost use Rattle.recording.specs.Record.{recordOf, timeAt, byteOf};
-ghost use Rattle.listing.specs.Text.{Put, digitPairs};
-ghost use Rattle.listing.specs.Line.{lineOf};
+ghost use Rattle.listing.specs.Text.{Put, Kept, digitPairs};
 ghost use Rattle.listing.specs.Walk.{Block, walkFrom, recordsIn};
-ghost use Rattle.listing.specs.Taken.{Took, Ahead, heardText};
+ghost use Rattle.listing.specs.Taken.{Took, Gave, entry};
 
-// What one record gave: the progress after it, the place after its text, and whether nothing is held now. No record is
-// used at the end, or where one is refused.
+// What the records ahead give to a listener that holds nothing: how many they are, how many bytes they hand out, and
+// what else is counted of them. None is used where they have to be heard one by one.
+struct Gathered {
+    used: usize,
+    count: usize,
+    cancelled: bool,
+    stray: bool,
+}
+
+// What one record gave: the progress after it, its time, and the bytes that it handed out. None is used at the end, or
+// where the record is refused.
 struct Taken {
     progress: Progress,
     used: usize,
-    place: usize,
-    idle: bool,
+    time: u32,
+    count: usize,
+    bytes: [u8; 18],
     stop: Stop,
+}
+
+// What was put: the place after it, and the digits that are kept.
+struct Entry {
+    place: usize,
+    stamp: Stamp,
 }
 
 // Lists the whole records of a block, as long as the output has room for a line, and says how far it came.
@@ -36,6 +52,11 @@ pub fn list_block(progress: Progress, input: &[u8], out: &mut [u8]) -> Listed
 {
     let pairs = digit_pairs();
     let mut bytes = [0u8; 18];
+    let mut digits = [48u8; 20];
+    let mut stamp = Stamp {
+        myriads: 0,
+        count: 1,
+    };
     let mut p = progress;
     let mut idle = listener::is_empty(p.listener);
     let mut left = input.len() / 8;
@@ -45,94 +66,102 @@ pub fn list_block(progress: Progress, input: &[u8], out: &mut [u8]) -> Listed
         if out.len() - place < 512 {
             return listed(p, at, place, Stop::Running);
         }
-        // A datagram that lies whole ahead leaves the listener as it is, which is then not copied.
-        let n = gather(idle, input, at, left, &mut bytes);
-        if 0 < n {
-            place = put_ahead(&pairs, out, place, input, at, n, &bytes);
-            p = handed_out(p);
-            at += 8 * n;
-            left -= n;
-            continue;
+        // Records taken at once leave the listener as it is, which is then not copied.
+        let g = gather(idle, input, at, left, &mut bytes);
+        let mut used = g.used;
+        let mut count = g.count;
+        let mut time = 0;
+        if 0 < used {
+            p = tally(p, 0 < count, g.cancelled, g.stray);
+            time = time_at(input, at + 8 * (used - 1));
+        } else {
+            let t = hear_record(p, input, at);
+            if t.used == 0 {
+                let stop = t.stop;
+                return listed(p, at, place, stop);
+            }
+            p = t.progress;
+            bytes = t.bytes;
+            used = 1;
+            count = t.count;
+            time = t.time;
+            idle = 0 < count;
         }
-        let t = list_record(&pairs, out, place, p, input, at);
-        if t.used == 0 {
-            let stop = t.stop;
-            return listed(p, at, place, stop);
-        }
-        place = t.place;
-        idle = t.idle;
-        p = t.progress;
-        at += 8;
-        left -= 1;
+        let e = put_entry(
+            &pairs,
+            out,
+            place,
+            &mut digits,
+            stamp,
+            time,
+            &bytes[0..count],
+        );
+        place = e.place;
+        stamp = e.stamp;
+        at += 8 * used;
+        left -= used;
     }
     listed(p, at, place, Stop::Running)
 }
 
-// Puts the line of the datagram in the n records from here on.
-fn put_ahead(
+// Puts the line of the bytes that were handed out, if any were.
+fn put_entry(
     pairs: &[u8; 712],
     out: &mut [u8],
-    place: usize,
-    input: &[u8],
     at: usize,
-    n: usize,
+    digits: &mut [u8],
+    stamp: Stamp,
+    time: u32,
     bytes: &[u8],
-) -> usize
-    requires { ⌜ (now pairs ≡ digitPairs) × (place + 512 ≤ length (now out)) × (0 < n) × (at + 8 * n ≤ length (now input)) × (n ≤ length (now bytes)) × (whole (take n (now bytes)) ≡ true) ⌝ }
-    ensures { λ r. ⌜ Put (now (out .entry)) place (lineOf (timeAt (now (input .entry)) (at + 8 * (n - 1))) (take n (now (bytes .entry)))) (now (out .exit)) r ⌝ }
+) -> Entry
+    requires { ⌜ (now pairs ≡ digitPairs) × (at + 512 ≤ length (now out)) × Kept (now digits) (stamp .myriads) (stamp .count) × (0 < length (now bytes) → whole (now bytes) ≡ true) ⌝ }
+    ensures { λ r. ⌜ Put (now (out .entry)) at (entry time (now (bytes .entry))) (now (out .exit)) (r .place) × Kept (now (digits .exit)) (r .stamp .myriads) (r .stamp .count) ⌝ }
 {
-    put_line(
-        pairs,
-        out,
-        place,
-        time_at(input, at + 8 * (n - 1)),
-        &bytes[0..n],
-    )
+    if bytes.len() == 0 {
+        return Entry {
+            place: at,
+            stamp: stamp,
+        };
+    }
+    let s = keep(pairs, digits, stamp, time / 10000);
+    let place = put_line(pairs, out, at, digits, s.count, time, bytes);
+    Entry {
+        place: place,
+        stamp: s,
+    }
 }
 
-// Hears the record at an offset, and puts the line of the datagram that it completes, if it does.
-fn list_record(
-    pairs: &[u8; 712],
-    out: &mut [u8],
-    place: usize,
-    p: Progress,
-    input: &[u8],
-    at: usize,
-) -> Taken
-    requires { ⌜ (now pairs ≡ digitPairs) × (place + 512 ≤ length (now out)) ⌝ }
-    ensures { λ r. ⌜ Took (now (input .entry)) at p (now (out .entry)) place (now (out .exit)) r ⌝ }
+// Hears the record at an offset.
+fn hear_record(p: Progress, input: &[u8], at: usize) -> Taken
+    ensures { λ r. ⌜ Took (now (input .entry)) at p r ⌝ }
 {
     match recording::record_at(input, at) {
-        Record::End => stopped(p, place, Stop::Running),
-        Record::Refused(r) => stopped(p, place, Stop::Stopped(r)),
+        Record::End => stopped(p, Stop::Running),
+        Record::Refused(r) => stopped(p, Stop::Stopped(r)),
         Record::Heard { time, symbol } => {
             let h = listener::hear(p.listener, symbol);
-            let next = put_heard(pairs, out, place, time, h);
-            took(advance(p, h), next, 0 < h.count)
+            let bytes = h.bytes;
+            Taken {
+                progress: advance(p, h),
+                used: 1,
+                time: time,
+                count: h.count as usize,
+                bytes: bytes,
+                stop: Stop::Running,
+            }
         }
     }
 }
 
-fn took(progress: Progress, place: usize, idle: bool) -> Taken
-    ensures { λ r. ⌜ r ≡ (record { progress = progress; used = 1; place = place; idle = idle; stop = Stop.Running }) ⌝ }
-{
-    Taken {
-        progress: progress,
-        used: 1,
-        place: place,
-        idle: idle,
-        stop: Stop::Running,
-    }
-}
-
-fn stopped(progress: Progress, place: usize, stop: Stop) -> Taken
-    ensures { λ r. ⌜ r ≡ (record { progress = progress; used = 0; place = place; idle = false; stop = stop }) ⌝ }
+fn stopped(progress: Progress, stop: Stop) -> Taken
+    ensures { λ r. ⌜ (r .progress ≡ progress) × (r .used ≡ 0) × (r .count ≡ 0) × (r .stop ≡ stop) ⌝ }
 {
     Taken {
         progress: progress,
         used: 0,
-        place: place,
-        idle: false,
+        time: 0,
+        count: 0,
+        bytes: [0u8; 18],
         stop: stop,
     }
 }
@@ -156,36 +185,53 @@ fn carries(input: &[u8], at: usize, command: u8) -> bool
     input[at + 7] == command
 }
 
-// Stores the bytes of the datagram that lies whole in the records from here on and gives their number; 0 if there is none, or
-// the listener is not idle.
-fn gather(idle: bool, input: &[u8], at: usize, left: usize, bytes: &mut [u8]) -> usize
+// What the records from here on give: the bytes of a datagram that lies whole in them, which are stored, a datagram
+// that a command symbol cancels, or a stray symbol; nothing where there is something else, or the listener is not idle.
+fn gather(idle: bool, input: &[u8], at: usize, left: usize, bytes: &mut [u8]) -> Gathered
     requires { ⌜ (at + 8 * left ≤ length (now input)) × (length (now bytes) ≡ 18) ⌝ }
-    ensures { λ r. ⌜ (0 < r → (idle ≡ true) × (r ≤ left) × Ahead (now (input .entry)) at r (now (bytes .exit))) ⌝ }
+    ensures { λ r. ⌜ (0 < r .used → (idle ≡ true) × Gave (now (input .entry)) at left (now (bytes .exit)) r) ⌝ }
 {
     if !idle {
-        return 0;
+        return gives(0, 0, false, false);
     }
     if left < 3 {
-        return 0;
+        return gives(0, 0, false, false);
     }
     let n = 3 + input[at + 14] as usize % 16;
     if left < n {
-        return 0;
+        return gives(0, 0, false, false);
     }
     if !carries(input, at, 1) {
-        return 0;
+        if carries(input, at, 0) {
+            return gives(1, 0, false, true);
+        }
+        return gives(0, 0, false, false);
     }
     bytes[0] = input[at + 6];
     let mut i = 1;
     while i < n {
         let q = at + 8 * i;
         if !carries(input, q, 0) {
-            return 0;
+            if carries(input, q, 1) {
+                return gives(i, 0, true, false);
+            }
+            return gives(0, 0, false, false);
         }
         bytes[i] = input[q + 6];
         i += 1;
     }
-    n
+    gives(n, n, false, false)
+}
+
+fn gives(used: usize, count: usize, cancelled: bool, stray: bool) -> Gathered
+    ensures { λ r. ⌜ r ≡ (record { used = used; count = count; cancelled = cancelled; stray = stray }) ⌝ }
+{
+    Gathered {
+        used: used,
+        count: count,
+        cancelled: cancelled,
+        stray: stray,
+    }
 }
 
 fn listed(progress: Progress, used: usize, written: usize, stop: Stop) -> Listed
@@ -197,17 +243,4 @@ fn listed(progress: Progress, used: usize, written: usize, stop: Stop) -> Listed
         written: written,
         stop: stop,
     }
-}
-
-// Puts the line of the datagram that was handed out, if one was.
-fn put_heard(pairs: &[u8; 712], out: &mut [u8], at: usize, time: u32, h: Heard) -> usize
-    requires { ⌜ (now pairs ≡ digitPairs) × (0 < h .count → (h .count ≤ 18) × (whole (take (h .count) (h .bytes)) ≡ true)) × (at + 512 ≤ length (now out)) ⌝ }
-    ensures { λ r. ⌜ Put (now (out .entry)) at (heardText time h) (now (out .exit)) r ⌝ }
-{
-    let n = h.count as usize;
-    if n == 0 {
-        return at;
-    }
-    let bytes = h.bytes;
-    put_line(pairs, out, at, time, &bytes[0..n])
 }

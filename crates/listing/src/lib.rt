@@ -1,22 +1,26 @@
 // The listing: a recording as lines of text, block by block, in a lent buffer.
 pub mod block;
+mod kinds;
 
-use message::Message;
+use datagram::Refusal;
+use datagram::UNKNOWN_COMMAND;
+use message::Lookup;
 use message::Reading;
 use progress::Progress;
 use progress::Stop;
 ghost use mathlib.Core.Path.{_≡_};
 ghost use mathlib.Core.Bool.{true};
 ghost use mathlib.Core.List.{[], _∷_, _++_};
-ghost use Prim.Native.Nat.{_+_, _≤_, _<_};
-ghost use lib.ListN.{length};
+ghost use Prim.Native.Nat.{_+_, _/_, _≤_, _<_};
+ghost use lib.ListN.{length, take};
 ghost use lib.Seq.{sets};
 ghost use lib.IntN.{pos};
 ghost use Rattle.number.specs.Word.{num};
-ghost use Rattle.listing.specs.Text.{Put, Placed, placed, digitPairs, pairOf, decimal, hexByte, spacedHex, spacedNumbers};
+ghost use Rattle.listing.specs.Text.{Put, Placed, Kept, placed, digitPairs, pairOf, decimal, hexByte, spacedHex, spacedNumbers};
 ghost use Rattle.datagram.specs.Whole.{whole};
+ghost use Rattle.message.specs.Reading.{readAs};
 ghost use Rattle.listing.specs.Walk.{stopText, endText};
-ghost use Rattle.listing.specs.Line.{messageText, contentOf, lineOf, countLine, headerLine};
+ghost use Rattle.listing.specs.Line.{contentOf, lineOf, countLine, headerLine};
 
 // A block's outcome: the progress, the bytes of input that were listed, and the bytes of text put.
 pub struct Listed {
@@ -24,6 +28,12 @@ pub struct Listed {
     pub used: usize,
     pub written: usize,
     pub stop: Stop,
+}
+
+// The digits that are kept from line to line: of how many ten thousands, and how many they are.
+struct Stamp {
+    myriads: u32,
+    count: usize,
 }
 
 // Puts these bytes.
@@ -187,20 +197,59 @@ fn put_pair(pairs: &[u8; 712], out: &mut [u8], at: usize, n: u32) -> usize
     at + 2
 }
 
-// Puts a time in decimal; of seven digits or more, as most are, the last six without a loop.
-fn put_time(pairs: &[u8; 712], out: &mut [u8], at: usize, n: u32) -> usize
-    requires { ⌜ (now pairs ≡ digitPairs) × (at + 26 ≤ length (now out)) ⌝ }
+// Stores the first six of the digits that are kept, so that it is one read and one store for four and for two.
+fn store_kept(out: &mut [u8], at: usize, digits: &[u8])
+    requires { ⌜ (length (now digits) ≡ 20) × (at + 6 ≤ length (now out)) ⌝ }
+    ensures { λ _. ⌜ Put (now (out .entry)) at (take 6 (now (digits .entry))) (now (out .exit)) (at + 6) ⌝ }
+{
+    let a = digits[0];
+    let b = digits[1];
+    let c = digits[2];
+    let d = digits[3];
+    let e = digits[4];
+    let f = digits[5];
+    out[at] = a;
+    out[at + 1] = b;
+    out[at + 2] = c;
+    out[at + 3] = d;
+    out[at + 4] = e;
+    out[at + 5] = f;
+}
+
+// Puts a time in decimal, where the digits before its last four are kept. Six are stored, and those past their number
+// stored over.
+fn put_time(
+    pairs: &[u8; 712],
+    out: &mut [u8],
+    at: usize,
+    digits: &[u8],
+    count: usize,
+    n: u32,
+) -> usize
+    requires { ⌜ (now pairs ≡ digitPairs) × (at + 26 ≤ length (now out)) × Kept (now digits) (n / 10000) count ⌝ }
     ensures { λ r. ⌜ Put (now (out .entry)) at (decimal n) (now (out .exit)) r ⌝ }
 {
-    if n < 1000000 {
+    if count < 2 {
         return put_decimal(pairs, out, at, n as u64);
     }
-    let hundreds = n / 100;
-    let myriads = hundreds / 100;
-    let mut p = put_decimal(pairs, out, at, (myriads / 100) as u64);
-    p = put_pair(pairs, out, p, myriads % 100);
-    p = put_pair(pairs, out, p, hundreds % 100);
-    put_pair(pairs, out, p, n % 100)
+    store_kept(out, at, digits);
+    let last = n % 10000;
+    let p = put_pair(pairs, out, at + count, last / 100);
+    put_pair(pairs, out, p, last % 100)
+}
+
+// The digits of a number of ten thousands: those that are kept, or spelled anew where it is another number.
+fn keep(pairs: &[u8; 712], digits: &mut [u8], stamp: Stamp, myriads: u32) -> Stamp
+    requires { ⌜ (now pairs ≡ digitPairs) × Kept (now digits) (stamp .myriads) (stamp .count) ⌝ }
+    ensures { λ r. ⌜ Kept (now (digits .exit)) (r .myriads) (r .count) × (r .myriads ≡ myriads) ⌝ }
+{
+    if myriads == stamp.myriads {
+        return stamp;
+    }
+    Stamp {
+        myriads: myriads,
+        count: put_decimal(pairs, digits, 0, myriads as u64),
+    }
 }
 
 // Puts a field after a space.
@@ -313,215 +362,53 @@ fn put_two_flagged(pairs: &[u8; 712], out: &mut [u8], at: usize, a: u32, b: u32,
     put_flag(out, p, on)
 }
 
-// Puts the fields of a depth.
-fn put_depth(
-    pairs: &[u8; 712],
-    out: &mut [u8],
-    at: usize,
-    tenths: u32,
-    anchor: bool,
-    metric: bool,
-    defective: bool,
-    deep: bool,
-    shallow: bool,
-) -> usize
-    requires { ⌜ (now pairs ≡ digitPairs) × (at + 132 ≤ length (now out)) ⌝ }
-    ensures { λ r. ⌜ Put (now (out .entry)) at (spacedNumbers (pos tenths ∷ pos (num anchor) ∷ pos (num metric) ∷ pos (num defective) ∷ pos (num deep) ∷ pos (num shallow) ∷ [])) (now (out .exit)) r ⌝ }
+// Puts two flags.
+fn put_flags(out: &mut [u8], at: usize, a: bool, b: bool) -> usize
+    requires { ⌜ at + 44 ≤ length (now out) ⌝ }
+    ensures { λ r. ⌜ Put (now (out .entry)) at (spacedNumbers (pos (num a) ∷ pos (num b) ∷ [])) (now (out .exit)) r ⌝ }
 {
-    let mut p = put_flagged(pairs, out, at, tenths, anchor);
-    p = put_flag(out, p, metric);
-    p = put_flag(out, p, defective);
-    p = put_flag(out, p, deep);
-    put_flag(out, p, shallow)
+    let p = put_flag(out, at, a);
+    put_flag(out, p, b)
 }
 
-// Puts the fields of speeds.
-fn put_speeds(
-    pairs: &[u8; 712],
-    out: &mut [u8],
-    at: usize,
-    speed: u32,
-    average: u32,
-    valid: bool,
-    stopped: bool,
-    mph: bool,
-) -> usize
-    requires { ⌜ (now pairs ≡ digitPairs) × (at + 110 ≤ length (now out)) ⌝ }
-    ensures { λ r. ⌜ Put (now (out .entry)) at (spacedNumbers (pos speed ∷ pos average ∷ pos (num valid) ∷ pos (num stopped) ∷ pos (num mph) ∷ [])) (now (out .exit)) r ⌝ }
+// Puts what refused a datagram.
+fn put_refused(pairs: &[u8; 712], out: &mut [u8], at: usize, refusal: Refusal) -> usize
+    requires { ⌜ (now pairs ≡ digitPairs) × (at + 29 ≤ length (now out)) ⌝ }
+    ensures { λ r. ⌜ Put (now (out .entry)) at (contentOf (Reading.Refused refusal)) (now (out .exit)) r ⌝ }
 {
-    let mut p = put_two_flagged(pairs, out, at, speed, average, valid);
-    p = put_flag(out, p, stopped);
-    put_flag(out, p, mph)
+    put_labelled(pairs, out, at, b" refused ", refusal.number as u64)
 }
 
-// Puts the fields of a turn.
-fn put_turn(
-    pairs: &[u8; 712],
-    out: &mut [u8],
-    at: usize,
-    degrees: u32,
-    right: bool,
-    rudder: i32,
-) -> usize
-    requires { ⌜ (now pairs ≡ digitPairs) × (at + 66 ≤ length (now out)) ⌝ }
-    ensures { λ r. ⌜ Put (now (out .entry)) at (spacedNumbers (pos degrees ∷ pos (num right) ∷ rudder ∷ [])) (now (out .exit)) r ⌝ }
-{
-    let p = put_flagged(pairs, out, at, degrees, right);
-    put_signed(pairs, out, p, rudder)
-}
-
-// Puts the name of a message's kind after a space, and then its fields.
-fn put_message(pairs: &[u8; 712], out: &mut [u8], at: usize, m: Message) -> usize
+// Puts what a datagram says by the row that its command was found at: its message, or what refused it.
+fn put_reading(pairs: &[u8; 712], out: &mut [u8], at: usize, found: Lookup, bytes: &[u8]) -> usize
     requires { ⌜ (now pairs ≡ digitPairs) × (at + 160 ≤ length (now out)) ⌝ }
-    ensures { λ r. ⌜ Put (now (out .entry)) at (messageText m) (now (out .exit)) r ⌝ }
+    ensures { λ r. ⌜ Put (now (out .entry)) at (contentOf (readAs found (now (bytes .entry)))) (now (out .exit)) r ⌝ }
 {
-    match m {
-        Message::Depth {
-            tenths,
-            anchor,
-            metric,
-            defective,
-            deep,
-            shallow,
-        } => {
-            let p = put_bytes(out, at, b" depth");
-            put_depth(
-                pairs,
-                out,
-                p,
-                tenths,
-                anchor,
-                metric,
-                defective,
-                deep,
-                shallow,
-            )
+    match found {
+        Lookup::Unknown => put_refused(pairs, out, at, UNKNOWN_COMMAND),
+        Lookup::Found(row) => {
+            let kind = row.kind;
+            kinds::put_kind(pairs, out, at, kind, row.length, bytes)
         }
-        Message::WindAngle { halves } => {
-            let p = put_bytes(out, at, b" windangle");
-            put_number(pairs, out, p, halves)
-        }
-        Message::WindSpeed { tenths, metres } => {
-            let p = put_bytes(out, at, b" windspeed");
-            put_flagged(pairs, out, p, tenths, metres)
-        }
-        Message::Speed { tenths } => {
-            let p = put_bytes(out, at, b" speed");
-            put_number(pairs, out, p, tenths)
-        }
-        Message::Trip { hundredths } => {
-            let p = put_bytes(out, at, b" trip");
-            put_number(pairs, out, p, hundredths)
-        }
-        Message::Total { tenths } => {
-            let p = put_bytes(out, at, b" total");
-            put_number(pairs, out, p, tenths)
-        }
-        Message::Logs { total, trip } => {
-            let p = put_bytes(out, at, b" logs");
-            put_two(pairs, out, p, total, trip)
-        }
-        Message::Speeds {
-            speed,
-            average,
-            valid,
-            stopped,
-            mph,
-        } => {
-            let p = put_bytes(out, at, b" speeds");
-            put_speeds(pairs, out, p, speed, average, valid, stopped, mph)
-        }
-        Message::Water { tenths } => {
-            let p = put_bytes(out, at, b" water");
-            put_signed(pairs, out, p, tenths)
-        }
-        Message::Lamp { level } => {
-            let p = put_bytes(out, at, b" lamp");
-            put_number(pairs, out, p, level)
-        }
-        Message::Latitude {
-            degrees,
-            hundredths,
-            south,
-        } => {
-            let p = put_bytes(out, at, b" lat");
-            put_two_flagged(pairs, out, p, degrees, hundredths, south)
-        }
-        Message::Longitude {
-            degrees,
-            hundredths,
-            east,
-        } => {
-            let p = put_bytes(out, at, b" lon");
-            put_two_flagged(pairs, out, p, degrees, hundredths, east)
-        }
-        Message::Ground { tenths } => {
-            let p = put_bytes(out, at, b" ground");
-            put_number(pairs, out, p, tenths)
-        }
-        Message::Course { halves } => {
-            let p = put_bytes(out, at, b" course");
-            put_number(pairs, out, p, halves)
-        }
-        Message::Time {
-            hours,
-            minutes,
-            seconds,
-        } => {
-            let p = put_bytes(out, at, b" time");
-            put_three(pairs, out, p, hours, minutes, seconds)
-        }
-        Message::Date { month, day, year } => {
-            let p = put_bytes(out, at, b" date");
-            put_three(pairs, out, p, month, day, year)
-        }
-        Message::Key { source, code } => {
-            let p = put_bytes(out, at, b" key");
-            put_two(pairs, out, p, source, code)
-        }
-        Message::Heading {
-            halves,
-            reference,
-            locked,
-        } => {
-            let p = put_bytes(out, at, b" heading");
-            put_two_flagged(pairs, out, p, halves, reference, locked)
-        }
-        Message::Variation { east } => {
-            let p = put_bytes(out, at, b" variation");
-            put_signed(pairs, out, p, east)
-        }
-        Message::Turn {
-            degrees,
-            right,
-            rudder,
-        } => {
-            let p = put_bytes(out, at, b" turn");
-            put_turn(pairs, out, p, degrees, right, rudder)
-        }
-    }
-}
-
-// Puts what a datagram says: its message, or what refused it.
-fn put_content(pairs: &[u8; 712], out: &mut [u8], at: usize, reading: Reading) -> usize
-    requires { ⌜ (now pairs ≡ digitPairs) × (at + 160 ≤ length (now out)) ⌝ }
-    ensures { λ r. ⌜ Put (now (out .entry)) at (contentOf reading) (now (out .exit)) r ⌝ }
-{
-    match reading {
-        Reading::Read(m) => put_message(pairs, out, at, m),
-        Reading::Refused(r) => put_labelled(pairs, out, at, b" refused ", r.number as u64),
     }
 }
 
 // Puts the line of a whole datagram.
-fn put_line(pairs: &[u8; 712], out: &mut [u8], at: usize, time: u32, bytes: &[u8]) -> usize
-    requires { ⌜ (now pairs ≡ digitPairs) × (whole (now bytes) ≡ true) × (at + 512 ≤ length (now out)) ⌝ }
+fn put_line(
+    pairs: &[u8; 712],
+    out: &mut [u8],
+    at: usize,
+    digits: &[u8],
+    count: usize,
+    time: u32,
+    bytes: &[u8],
+) -> usize
+    requires { ⌜ (now pairs ≡ digitPairs) × (whole (now bytes) ≡ true) × (at + 512 ≤ length (now out)) × Kept (now digits) (time / 10000) count ⌝ }
     ensures { λ r. ⌜ Put (now (out .entry)) at (lineOf time (now (bytes .entry))) (now (out .exit)) r ⌝ }
 {
-    let mut p = put_time(pairs, out, at, time);
+    let mut p = put_time(pairs, out, at, digits, count, time);
     p = put_hex(pairs, out, p, bytes);
-    let reading = reader::read_as(message::find(bytes[0]), bytes);
-    p = put_content(pairs, out, p, reading);
+    p = put_reading(pairs, out, p, message::find(bytes[0]), bytes);
     out[p] = 10;
     p + 1
 }

@@ -55,6 +55,16 @@ advanced p h =
       stray = counted (isStray (h .answer)) (p .stray);
     }
 
+-- the same listener, with what was heard counted
+abbrev pub tallied : Progress → Bool → Bool → Bool → Progress
+tallied p handed cancelled stray =
+    record {
+      listener = p .listener;
+      handed = counted handed (p .handed);
+      cancelled = counted cancelled (p .cancelled);
+      stray = counted stray (p .stray);
+    }
+
 -- what stands at an offset where no whole record is left: the end, or a record cut short
 abbrev pub cutOff : Record → Stop
 cutOff (record-case.Heard time symbol) = Running

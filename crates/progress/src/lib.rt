@@ -5,9 +5,8 @@ use listener::Heard;
 use listener::Listener;
 use recording::Record;
 ghost use mathlib.Core.Path.{_≡_};
-ghost use mathlib.Core.Bool.{true};
 ghost use Rattle.recording.specs.Record.{recordOf};
-ghost use Rattle.progress.specs.Progress.{begun, counted, advanced, cutOff, placedFrom};
+ghost use Rattle.progress.specs.Progress.{begun, counted, tallied, advanced, cutOff, placedFrom};
 
 // What is carried from block to block: the listener, and how many answers of each counted sort it gave.
 pub struct Progress {
@@ -49,12 +48,17 @@ pub fn advance(p: Progress, h: Heard) -> Progress
     }
 }
 
-// One datagram more was handed out, with nothing held before it or after it.
-pub fn handed_out(p: Progress) -> Progress
-    ensures { λ r. ⌜ r ≡ (record { listener = p .listener; handed = counted true (p .handed); cancelled = p .cancelled; stray = p .stray }) ⌝ }
+// The same listener, with what was heard counted.
+pub fn tally(p: Progress, handed: bool, cancelled: bool, stray: bool) -> Progress
+    ensures { λ r. ⌜ r ≡ tallied p handed cancelled stray ⌝ }
 {
     let l = p.listener;
-    progressed(l, count(true, p.handed), p.cancelled, p.stray)
+    progressed(
+        l,
+        count(handed, p.handed),
+        count(cancelled, p.cancelled),
+        count(stray, p.stray),
+    )
 }
 
 // Why a listing ends where no whole record is left: these bytes are none, or a record cut short.

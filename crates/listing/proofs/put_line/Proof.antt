@@ -2,6 +2,7 @@
 use borrow.Author.Needs.{needs}
 use native.Mathlib.Omega.{arith}
 use Rattle.datagram.proofs.Whole.{declares}
+use Rattle.message.specs.Reading.{readAs}
 use Rattle.listing.proofs.Put.{put-then, put-one, put-length}
 use Rattle.listing.proofs.Decimal.{decimal-most}
 use Rattle.listing.proofs.Spaced.{hex-length}
@@ -10,41 +11,38 @@ use Rattle.listing.proofs.put_line.Statement.{statement}
 use Rattle.listing.proofs.put_line.Tie as tie
 
 put-time-requires : tie.Need-put-time-requires
-put-time-requires c κs = (c .before .before .before .pre .0, omega arith)
+put-time-requires c κs = search needs
 
 put-hex-requires : tie.Need-put-hex-requires
 put-hex-requires c κs =
-    let start = c .before .before .before .before .before .before .before in
+    let start = c .before .before .before .before .before .before .before .before in
     let p = c .before .before .before .put-time .ensures in
     let whole = declares (start .args .bytes .now) (start .pre .1) in
     (start .pre .0, omega (arith, whole), omega (arith, p .moved, put-length p, decimal-most (start .args .time)))
 
 shared-slice-read-find : tie.Need-shared-slice-read-find
 shared-slice-read-find c =
-    let start = c .before .before .before .before .before .before .before .before .before .before .before in omega (arith, declares (start .args .bytes .now) (start .pre .1))
+    let start = c .before .before .before .before .before .before .before .before .before .before .before .before .before in omega (arith, declares (start .args .bytes .now) (start .pre .1))
 
 find-requires : tie.Need-find-requires
 find-requires c κs = search needs
 
-read-as-requires : tie.Need-read-as-requires
-read-as-requires c κs = search needs
-
-put-content-requires : tie.Need-put-content-requires
-put-content-requires c κs =
+put-reading-requires : tie.Need-put-reading-requires
+put-reading-requires c κs =
     let start = c .before .before .before .before .before .before .before .before .before .before .before .before .before .before in
-    let p = c .before .before .before .before .before .before .before .before .before .before .put-time .ensures in
-    let q = c .before .before .before .before .before .before .put-hex .ensures in
+    let p = c .before .before .before .before .before .before .before .before .before .put-time .ensures in
+    let q = c .before .before .before .before .before .put-hex .ensures in
     let bytes = start .args .bytes .now in
     (start .pre .0, omega (arith, p .moved, q .moved, put-length p, put-length q, decimal-most (start .args .time), hex-length bytes, declares bytes (start .pre .1)))
 
 slice-write-out : tie.Need-slice-write-out
 slice-write-out c =
     let start = c .before .before .before .before .before .before .before .before .before .before .before .before .before .before .before .before .before in
-    let p = c .before .before .before .before .before .before .before .before .before .before .before .before .before .put-time .ensures in
-    let q = c .before .before .before .before .before .before .before .before .before .put-hex .ensures in
-    let r = c .before .before .put-content .ensures in
+    let p = c .before .before .before .before .before .before .before .before .before .before .before .before .put-time .ensures in
+    let q = c .before .before .before .before .before .before .before .before .put-hex .ensures in
+    let r = c .before .before .put-reading .ensures in
     let bytes = start .args .bytes .now in
-    omega (arith, p .moved, q .moved, r .moved, put-length p, put-length q, put-length r, decimal-most (start .args .time), hex-length bytes, declares bytes (start .pre .1), content-most (c .before .before .before .before .read-as .result))
+    omega (arith, p .moved, q .moved, r .moved, put-length p, put-length q, put-length r, decimal-most (start .args .time), hex-length bytes, declares bytes (start .pre .1), content-most (readAs (c .before .before .before .find .result) bytes))
 
 add-result : tie.Need-add-result
 add-result c = omega (arith, slice-write-out c)
@@ -52,9 +50,9 @@ add-result c = omega (arith, slice-write-out c)
 returns : tie.Need-returns
 returns c =
     let start = c .before .before .before .before .before .before .before .before .before .before .before .before .before .before .before .before .before in
-    let content = rw (c .before .before .before .before .read-as .ensures, c .before .before .before .before .before .find .ensures) at (c .before .before .put-content .ensures) in
+    let content = rw (c .before .before .before .find .ensures) at (c .before .before .put-reading .ensures) in
     rw (read-whole (start .args .bytes .now) (start .pre .1))
-    (put-then (c .before .before .before .before .before .before .before .before .before .before .before .before .before .put-time .ensures) (put-then (c .before .before .before .before .before .before .before .before .before .put-hex .ensures) (put-then content (put-one _ _ 10))))
+    (put-then (c .before .before .before .before .before .before .before .before .before .before .before .before .put-time .ensures) (put-then (c .before .before .before .before .before .before .before .before .put-hex .ensures) (put-then content (put-one _ _ 10))))
 
 same-length : tie.Need-same-length
 same-length c = put-length (returns c)
@@ -67,8 +65,7 @@ put-line-spec =
     put-hex-requires
     shared-slice-read-find
     find-requires
-    read-as-requires
-    put-content-requires
+    put-reading-requires
     slice-write-out
     add-result
     same-length

@@ -1,11 +1,13 @@
--- `gather` has the bytes of the first i records after i turns, and all of them when it gives their number.
+-- `gather` has the bytes of the first i records after i turns; a command symbol, or their number, ends them.
 use borrow.Author.Needs.{needs}
 use Prim.Native.Nat.{_+_, _*_, _%_, _-_, _≤_, _<_}
 use mathlib.Core.Path.{_≡_, refl, sym, _∙_}
 use borrow.Author.Tests.{not-false}
 use native.Mathlib.Omega.{arith}
 use lib.ListN.{getD}
-use Rattle.listing.proofs.Gathering.{Gathering, gathered-one, gathered-more, gathered-all}
+use Rattle.recording.specs.Record.{byteOf}
+use Rattle.listing.proofs.Gathering.{Gathering, gathered-one, gathered-more, plain}
+use Rattle.listing.proofs.Takes.{unused, gave-stray, gave-cancelled, gave-whole}
 use Rattle.listing.proofs.block.gather.Statement.{statement}
 use Rattle.listing.proofs.block.gather.Tie as tie
 
@@ -15,11 +17,17 @@ Inv-loop idle input at left bytes₀ n i₀ bytes i = (0 < i) × (i ≤ n) × Ga
 abbrev μ-loop : tie.MeasureT-loop
 μ-loop idle input at left bytes₀ n i₀ bytes i = n - i
 
+gives-requires : tie.Need-gives-requires Inv-loop μ-loop
+gives-requires c κs = search needs
+
 returns : tie.Need-returns Inv-loop μ-loop
-returns c = λ h. absurd (omega arith)
+returns c = unused (c .gives .ensures)
+
+gives-requires-2 : tie.Need-gives-requires-2 Inv-loop μ-loop
+gives-requires-2 c κs = search needs
 
 returns-2 : tie.Need-returns-2 Inv-loop μ-loop
-returns-2 c = λ h. absurd (omega arith)
+returns-2 c = unused (c .gives2 .ensures)
 
 add-n : tie.Need-add-n Inv-loop μ-loop
 add-n c = search needs
@@ -34,14 +42,34 @@ cast-n c =
 add-n-2 : tie.Need-add-n-2 Inv-loop μ-loop
 add-n-2 c = search needs
 
+gives-requires-3 : tie.Need-gives-requires-3 Inv-loop μ-loop
+gives-requires-3 c κs = search needs
+
 returns-3 : tie.Need-returns-3 Inv-loop μ-loop
-returns-3 c = λ h. absurd (omega arith)
+returns-3 c = unused (c .gives3 .ensures)
 
 carries-requires : tie.Need-carries-requires Inv-loop μ-loop
 carries-requires c κs = search needs
 
+carries-requires-2 : tie.Need-carries-requires-2 Inv-loop μ-loop
+carries-requires-2 c κs = search needs
+
+gives-requires-4 : tie.Need-gives-requires-4 Inv-loop μ-loop
+gives-requires-4 c κs = search needs
+
 returns-4 : tie.Need-returns-4 Inv-loop μ-loop
-returns-4 c = λ h. absurd (omega arith)
+returns-4 c =
+    let start = c .before .before .before .before .before .before .before .before .before .before .before in
+    let s = start .args .input .now in
+    let at = start .args .at in
+    let heard = rw plain at (c .before .before .carries2 .ensures (c .before .if5 .taken)) in
+    λ h. (not-false _ (c .before .before .before .before .before .before .before .before .if1 .left), gave-stray (byteOf s at 6) (omega (arith, c .before .before .before .before .before .before .before .if2 .left)) (omega (arith, c .before .before .before .before .before .before .before .before .before .before .shared-slice-known .given (at + 6))) heard _ (c .gives4 .ensures))
+
+gives-requires-5 : tie.Need-gives-requires-5 Inv-loop μ-loop
+gives-requires-5 c κs = search needs
+
+returns-5 : tie.Need-returns-5 Inv-loop μ-loop
+returns-5 c = unused (c .gives5 .ensures)
 
 add-bytes : tie.Need-add-bytes Inv-loop μ-loop
 add-bytes c = search needs
@@ -65,15 +93,35 @@ mul-q c = search needs
 add-q : tie.Need-add-q Inv-loop μ-loop
 add-q c = search needs
 
-carries-requires-2 : tie.Need-carries-requires-2 Inv-loop μ-loop
-carries-requires-2 c κs = search needs
+carries-requires-3 : tie.Need-carries-requires-3 Inv-loop μ-loop
+carries-requires-3 c κs = search needs
+
+carries-requires-4 : tie.Need-carries-requires-4 Inv-loop μ-loop
+carries-requires-4 c κs = search needs
+
+gives-requires-6 : tie.Need-gives-requires-6 Inv-loop μ-loop
+gives-requires-6 c κs = search needs
 
 same-length : tie.Need-same-length Inv-loop μ-loop
-same-length c =
-    c .before .before .before .loop .inv .2 .long ∙ sym (c .before .before .before .before .before .before .before .before .before .before .before .before .before .pre .1)
+same-length c = c .before .before .before .before .before .before .loop .inv .2 .long ∙ sym (c .before .before .before .before .before .before .before .before .before .before .before .before .before .before .before .before .pre .1)
 
-returns-5 : tie.Need-returns-5 Inv-loop μ-loop
-returns-5 c = λ h. absurd (omega arith)
+returns-6 : tie.Need-returns-6 Inv-loop μ-loop
+returns-6 c =
+    let start = c .before .before .before .before .before .before .before .before .before .before .before .before .before .before .before .before in
+    let v = c .before .before .before .before .before .before .loop in
+    let s = start .args .input .now in
+    let at = start .args .at in
+    let heard = c .before .before .carries4 .ensures (c .before .if7 .taken) in
+    λ h. (not-false _ (c .before .before .before .before .before .before .before .before .before .before .before .before .before .if1 .left), gave-cancelled {n = 3 + getD s (at + 14) 0 % 16} (v .inv .2) refl (omega (arith, c .before .before .before .before .before .before .before .before .before .before .if3 .left)) (byteOf s (at + 8 * v .i) 6) (v .inv .0) (c .before .before .before .before .before .loop-test .taken) (omega (arith, c .before .before .before .before .before .before .before .before .before .before .before .before .before .before .before .shared-slice-known .given (at + 8 * v .i + 6))) heard _ (c .gives6 .ensures))
+
+gives-requires-7 : tie.Need-gives-requires-7 Inv-loop μ-loop
+gives-requires-7 c κs = search needs
+
+same-length-2 : tie.Need-same-length-2 Inv-loop μ-loop
+same-length-2 c = c .before .before .before .before .before .before .loop .inv .2 .long ∙ sym (c .before .before .before .before .before .before .before .before .before .before .before .before .before .before .before .before .pre .1)
+
+returns-7 : tie.Need-returns-7 Inv-loop μ-loop
+returns-7 c = unused (c .gives7 .ensures)
 
 add-bytes-2 : tie.Need-add-bytes-2 Inv-loop μ-loop
 add-bytes-2 c = search needs
@@ -96,21 +144,23 @@ loop-again c =
     let v = c .before .before .before .before .loop in
     let s = start .args .input .now in
     let at = start .args .at in
-    (omega arith, omega arith, gathered-more s at (v .bytes) (v .i) (v .inv .2) (v .inv .0) (omega arith) (c .before .before .carries2 .ensures (not-false _ (c .before .if5 .left))) (omega (arith, c .shared-slice-known4 .given (at + 8 * v .i + 6))))
+    (omega arith, omega arith, gathered-more s at (v .bytes) (v .i) (v .inv .2) (v .inv .0) (omega arith) (c .before .before .carries3 .ensures (not-false _ (c .before .if6 .left))) (omega (arith, c .shared-slice-known4 .given (at + 8 * v .i + 6))))
 
-same-length-2 : tie.Need-same-length-2 Inv-loop μ-loop
-same-length-2 c =
-    c .before .loop .inv .2 .long ∙ sym (c .before .before .before .before .before .before .before .before .before .before .before .pre .1)
+gives-requires-8 : tie.Need-gives-requires-8 Inv-loop μ-loop
+gives-requires-8 c κs = search needs
 
-returns-6 : tie.Need-returns-6 Inv-loop μ-loop
-returns-6 c =
-    let start = c .before .before .before .before .before .before .before .before .before .before .before in
-    let v = c .before .loop in
+same-length-3 : tie.Need-same-length-3 Inv-loop μ-loop
+same-length-3 c = c .before .before .loop .inv .2 .long ∙ sym (c .before .before .before .before .before .before .before .before .before .before .before .before .pre .1)
+
+returns-8 : tie.Need-returns-8 Inv-loop μ-loop
+returns-8 c =
+    let start = c .before .before .before .before .before .before .before .before .before .before .before .before in
+    let v = c .before .before .loop in
     let s = start .args .input .now in
     let at = start .args .at in
     let n = 3 + getD s (at + 14) 0 % 16 in
-    let e : v .i ≡ n = omega arith in
-    λ h. (not-false _ (c .before .before .before .before .before .before .before .before .if1 .left), omega arith, gathered-all s at (v .bytes) n (rw e at (v .inv .2)) (omega arith) refl)
+    let all : v .i ≡ n = omega (arith, c .before .loop-test .left, v .inv .1) in
+    λ h. (not-false _ (c .before .before .before .before .before .before .before .before .before .if1 .left), gave-whole {n = n} (v .inv .2) refl (omega (arith, c .before .before .before .before .before .before .if3 .left)) all _ (c .gives8 .ensures))
 
 pub gather-spec : {M : Type 1} → statement M
 gather-spec =
@@ -118,29 +168,42 @@ gather-spec =
     (tie.spec
     Inv-loop
     μ-loop
+    gives-requires
     returns
+    gives-requires-2
     returns-2
     add-n
     shared-slice-read-n
     cast-n
     add-n-2
+    gives-requires-3
     returns-3
     carries-requires
+    carries-requires-2
+    gives-requires-4
     returns-4
+    gives-requires-5
+    returns-5
     add-bytes
     shared-slice-read-bytes
     slice-write-bytes
     loop-holds
     mul-q
     add-q
-    carries-requires-2
+    carries-requires-3
+    carries-requires-4
+    gives-requires-6
     same-length
-    returns-5
+    returns-6
+    gives-requires-7
+    same-length-2
+    returns-7
     add-bytes-2
     shared-slice-read-bytes-2
     slice-write-bytes-2
     add-i
     loop-less
     loop-again
-    same-length-2
-    returns-6)
+    gives-requires-8
+    same-length-3
+    returns-8)

@@ -1,34 +1,54 @@
 -- `list_block` walks on with what is taken: the text put so far stands before what the walk of the records left gives.
 use borrow.Author.Needs.{needs}
-use mathlib.Core.Path.{_≡_, refl, sym, _∙_, ap}
+use mathlib.Core.Path.{_≡_, refl, sym, _∙_}
 use mathlib.Core.Bool.{true}
 use mathlib.Core.List.{[]}
-use Prim.Native.Nat.{_+_, _-_, _*_, _<_, _≤_}
+use mathlib.Core.Logic.{⊎-elim}
+use Prim.Native.Nat.{_+_, _*_, _-_, _≤_, _<_}
+use native.Mathlib.Nat.{sub-zero}
 use native.Mathlib.Omega.{arith}
 use denote.Ref.{now}
 use lib.ListN.{length, take}
+use lib.Seq.{length-take-le}
 use Rattle.listener.specs.State.{holding}
 use Rattle.listener.proofs.Sound.{empty-is}
-use Rattle.recording.specs.Record.{timeAt}
-use Rattle.progress.specs.declared.Progress.{Progress}
 use Rattle.progress.specs.declared.Stop.the-variants.{Running}
-use Rattle.listing.specs.Line.{lineOf}
+use Rattle.listing.specs.Text.{Kept, decimal}
+use Rattle.listing.specs.Taken.{entry}
 use Rattle.listing.specs.Walk.{walkFrom}
 use Rattle.listing.proofs.Put.{put-length}
-use Rattle.listing.proofs.Short.{line-short}
-use Rattle.listing.proofs.Spaced.{take-most}
-use Rattle.listing.proofs.Takes.{ahead-whole}
-use Rattle.listing.proofs.Ahead.{walk-ahead}
-use Rattle.listing.proofs.Walks.{Going, started, stayed, went, ended, walk-full}
-use Rattle.listing.proofs.Walks.{Going}
+use Rattle.listing.proofs.Takes.{Stepped, stepped-gave, stepped-took, entry-short}
+use Rattle.listing.proofs.Walks.{Going, started, went, ended, walk-full}
 use Rattle.listing.proofs.block.list_block.Statement.{statement}
 use Rattle.listing.proofs.block.list_block.Tie as tie
 
 abbrev Inv-loop : tie.InvT-loop
-Inv-loop input out₀ pairs bytes₀ p₀ idle₀ left₀ at₀ place₀ out bytes p idle left at place = Going input out₀ p₀ left₀ out p left at place × (idle ≡ true → p .listener ≡ holding []) × (length bytes ≡ 18)
+Inv-loop input out₀ pairs bytes₀ digits₀ stamp₀ p₀ idle₀ left₀ at₀ place₀ out bytes digits stamp p idle left at place = Going input out₀ p₀ left₀ out p left at place × (idle ≡ true → p .listener ≡ holding []) × (length bytes ≡ 18) × Kept digits (stamp .myriads) (stamp .count)
 
 abbrev μ-loop : tie.MeasureT-loop
-μ-loop input out₀ pairs bytes₀ p₀ idle₀ left₀ at₀ place₀ out bytes p idle left at place = left
+μ-loop input out₀ pairs bytes₀ digits₀ stamp₀ p₀ idle₀ left₀ at₀ place₀ out bytes digits stamp p idle left at place = left
+
+-- the room that is left for text holds a line
+roomy : (c : tie.Joined2 Inv-loop μ-loop) → 512 ≤ length (now (c .before .before .before .before .before .before .before .before .before .before .before .args .out)) - c .before .before .before .before .before .before .loop .place
+roomy c = omega (arith, c .before .before .before .before .if1 .left, put-length (c .before .before .before .before .before .before .loop .inv .0 .put))
+
+-- in either way the walk goes on behind what was handed out
+stepped : (c : tie.Joined2 Inv-loop μ-loop)
+    → let a = c .before .before .before .before .before .before .before .before .before .before .before .args in
+    let v = c .before .before .before .before .before .before .loop in
+    let j = c .if2 in
+    Stepped (now (a .input)) (v .at) (v .left) (v .p) (length (now (a .out)) - v .place) (j .bytes) (j .p) (j .idle) (j .used) (j .count) (j .time)
+stepped c =
+    let v = c .before .before .before .before .before .before .loop in
+    let g = c .before .before .gather in
+    let long : length (g .last .1 .1 .1 .1 .0) ≡ 18 = search needs in
+    ⊎-elim
+    (λ w.
+    let gave = g .ensures (w .0 .taken) in
+    stepped-gave (roomy c) (g .result) (gave .1) long (w .0 .taken) (v .inv .1 (gave .0)) (w .3) (w .4 ∙ w .1 .ensures) (w .6) (w .7) (w .8 ∙ w .2 .ensures))
+    (λ w.
+    stepped-took (roomy c) (w .1 .result) (w .1 .ensures) (omega (arith, w .3 .left)) (c .before .before .before .before .before .loop-test .taken) (w .6) (w .7) (w .8) (w .9) (w .10) (w .11))
+    (c .if2 .came)
 
 digit-pairs-requires : tie.Need-digit-pairs-requires Inv-loop μ-loop
 digit-pairs-requires c κs = search needs
@@ -37,10 +57,11 @@ is-empty-requires : tie.Need-is-empty-requires Inv-loop μ-loop
 is-empty-requires c κs = search needs
 
 loop-holds : tie.Need-loop-holds Inv-loop μ-loop
+unfolding decimal
 loop-holds c =
     let a = c .before .before .before .before .args in
     let long : length (a .progress .listener .bytes) ≡ 17 = search needs in
-    (started (now (a .input)) (now (a .out)) (a .progress), λ e. empty-is (a .progress .listener) long (sym (c .is-empty .ensures) ∙ e), refl)
+    (started (now (a .input)) (now (a .out)) (a .progress), λ e. empty-is (a .progress .listener) long (sym (c .is-empty .ensures) ∙ e), refl, record { long = refl; shown = refl; many = refl })
 
 sub-if1 : tie.Need-sub-if1 Inv-loop μ-loop
 sub-if1 c = let g = c .before .loop .inv .0 in omega (arith, g .fits, put-length (g .put))
@@ -64,98 +85,90 @@ slice-aggregate-gather c = sym (c .before .before .before .loop .inv .2)
 gather-requires : tie.Need-gather-requires Inv-loop μ-loop
 gather-requires c κs = (c .before .before .before .loop .inv .0 .within, c .before .before .before .loop .inv .2)
 
-slice-aggregate-put-ahead : tie.Need-slice-aggregate-put-ahead Inv-loop μ-loop
-slice-aggregate-put-ahead c = search needs
+tally-requires : tie.Need-tally-requires Inv-loop μ-loop
+tally-requires c κs = search needs
 
-put-ahead-requires : tie.Need-put-ahead-requires Inv-loop μ-loop
-put-ahead-requires c κs =
-    let v = c .before .before .before .before .before .before .before .before .before .loop in
-    let g = v .inv .0 in
-    let found = c .before .before .before .before .before .gather .ensures (c .before .before .before .if2 .taken) in
-    let bytes = c .before .before .before .before .before .gather .last .1 .1 .1 .1 .0 in
-    let long : length bytes ≡ 18 = search needs in
-    let whole = ahead-whole long (found .2) in
-    (c .before .before .before .before .before .before .before .before .before .before .before .digit-pairs .ensures, omega (arith, c .before .before .before .before .before .before .before .if1 .left, g .fits, put-length (g .put)), c .before .before .before .if2 .taken, omega (arith, g .within, found .1), omega (arith, whole .0), whole .1)
+sub-time-at : tie.Need-sub-time-at Inv-loop μ-loop
+sub-time-at c = search needs
 
-handed-out-requires : tie.Need-handed-out-requires Inv-loop μ-loop
-handed-out-requires c κs = search needs
+mul-time-at : tie.Need-mul-time-at Inv-loop μ-loop
+mul-time-at c =
+    let gave = c .before .before .before .gather .ensures (c .before .if2 .taken) in
+    omega (arith, gave .1 .fits, c .before .if2 .taken, c .before .before .before .before .before .before .before .loop .inv .0 .within, c .before .before .before .before .before .before .before .before .before .before .before .before .good .1 .0 .0)
 
-mul-at : tie.Need-mul-at Inv-loop μ-loop
-mul-at c =
-    omega (arith, (c .before .before .before .before .before .before .before .before .before .gather .ensures (c .before .before .before .before .before .before .before .if2 .taken)) .1, c .before .before .before .before .before .before .before .before .before .before .before .before .before .loop .inv .0 .within, c .before .before .before .before .before .before .before .before .before .before .before .before .before .before .before .before .before .before .good .1 .0 .0)
+add-time-at : tie.Need-add-time-at Inv-loop μ-loop
+add-time-at c =
+    let gave = c .before .before .before .gather .ensures (c .before .if2 .taken) in
+    omega (arith, gave .1 .fits, c .before .if2 .taken, c .before .before .before .before .before .before .before .loop .inv .0 .within, c .before .before .before .before .before .before .before .before .before .before .before .before .good .1 .0 .0)
 
-add-at : tie.Need-add-at Inv-loop μ-loop
-add-at c =
-    omega (arith, (c .before .before .before .before .before .before .before .before .before .gather .ensures (c .before .before .before .before .before .before .before .if2 .taken)) .1, c .before .before .before .before .before .before .before .before .before .before .before .before .before .loop .inv .0 .within, c .before .before .before .before .before .before .before .before .before .before .before .before .before .before .before .before .before .before .good .1 .0 .0)
+time-at-requires : tie.Need-time-at-requires Inv-loop μ-loop
+time-at-requires c κs =
+    let gave = c .before .before .before .gather .ensures (c .before .if2 .taken) in
+    omega (arith, gave .1 .fits, c .before .if2 .taken, c .before .before .before .before .before .before .before .loop .inv .0 .within, c .before .before .before .before .before .before .before .before .before .before .before .before .good .1 .0 .0)
 
-sub-left : tie.Need-sub-left Inv-loop μ-loop
-sub-left c =
-    (c .before .before .before .before .before .before .before .before .before .gather .ensures (c .before .before .before .before .before .before .before .if2 .taken)) .1
-
-loop-less : tie.Need-loop-less Inv-loop μ-loop
-loop-less c =
-    let some : 0 < c .before .before .before .before .before .before .before .before .before .gather .result = c .before .before .before .before .before .before .before .if2 .taken in omega (arith, (c .before .before .before .before .before .before .before .before .before .gather .ensures some) .1)
-
-loop-again : tie.Need-loop-again Inv-loop μ-loop
-loop-again c =
-    let a = c .before .before .before .before .before .before .before .before .before .before .before .before .before .before .before .before .before .before .args in
-    let v = c .before .before .before .before .before .before .before .before .before .before .before .before .before .loop in
-    let g = v .inv .0 in
-    let n = c .before .before .before .before .before .before .before .before .before .gather .result in
-    let found = c .before .before .before .before .before .before .before .before .before .gather .ensures (c .before .before .before .before .before .before .before .if2 .taken) in
-    let bytes = c .before .before .before .before .before .before .before .before .before .gather .last .1 .1 .1 .1 .0 in
-    let long : length bytes ≡ 18 = search needs in
-    let room = length (now (a .out)) - v .place in
-    let roomy : 512 ≤ room = omega (arith, c .before .before .before .before .before .before .before .before .before .before .before .if1 .left, put-length (g .put)) in
-    let line = lineOf (timeAt (now (a .input)) (v .at + 8 * (n - 1))) (take n bytes) in
-    let short : length line ≤ 512 = line-short _ (take n bytes) (omega (arith, take-most n bytes, ahead-whole long (found .2) .0)) in
-    let walked = walk-ahead (now (a .input)) (v .at) n bytes long (found .2) (v .p) (v .left) room (found .1) roomy (v .inv .1 (found .0)) in
-    (went g n line (c .handed-out .result) _ _ (walked ∙ rw (c .handed-out .ensures)) (found .1) short roomy (c .before .before .before .put-ahead .ensures), λ e. ap (λ (p : Progress). p .listener) (c .handed-out .ensures) ∙ v .inv .1 e, long)
-
-list-record-requires : tie.Need-list-record-requires Inv-loop μ-loop
-list-record-requires c κs =
-    let g = c .before .before .before .before .before .before .before .before .loop .inv .0 in
-    (c .before .before .before .before .before .before .before .before .before .before .digit-pairs .ensures, omega (arith, c .before .before .before .before .before .before .if1 .left, g .fits, put-length (g .put)))
+hear-record-requires : tie.Need-hear-record-requires Inv-loop μ-loop
+hear-record-requires c κs = search needs
 
 listed-requires-2 : tie.Need-listed-requires-2 Inv-loop μ-loop
 listed-requires-2 c κs = search needs
 
 same-length-2 : tie.Need-same-length-2 Inv-loop μ-loop
-same-length-2 c =
-    put-length (c .before .before .before .before .before .list-record .ensures .put) ∙ put-length (c .before .before .before .before .before .before .before .before .before .before .before .before .before .before .loop .inv .0 .put)
+same-length-2 c = put-length (c .before .before .before .before .before .before .before .before .before .before .loop .inv .0 .put)
 
 returns-2 : tie.Need-returns-2 Inv-loop μ-loop
 returns-2 c =
-    let a = c .before .before .before .before .before .before .before .before .before .before .before .before .before .before .before .before .before .before .before .args in
-    let v = c .before .before .before .before .before .before .before .before .before .before .before .before .before .before .loop in
+    let a = c .before .before .before .before .before .before .before .before .before .before .before .before .before .before .before .args in
+    let v = c .before .before .before .before .before .before .before .before .before .before .loop in
     let g = v .inv .0 in
-    let k = c .before .before .before .before .before .list-record .ensures in
-    let none = k .ends (c .before .if3 .taken) in
-    ended (stayed g _ _ (rw (none .0) at (k .put))) (c .before .before .before .before .before .list-record .result .stop) _ (none .1 (v .left) (length (now (a .out)) - v .place) (c .before .before .before .before .before .before .before .before .before .before .before .before .before .loop-test .taken) (omega (arith, c .before .before .before .before .before .before .before .before .before .before .before .before .if1 .left, put-length (g .put)))) (c .listed2 .ensures)
+    let none = c .before .before .before .hear-record .ensures .ends (c .before .if3 .taken) in
+    ended g (c .before .before .before .hear-record .result .stop) _ (none (v .left) (length (now (a .out)) - v .place) (c .before .before .before .before .before .before .before .before .before .loop-test .taken) (omega (arith, c .before .before .before .before .before .before .before .before .if1 .left, put-length (g .put)))) (c .listed2 .ensures)
 
-add-at-2 : tie.Need-add-at-2 Inv-loop μ-loop
-add-at-2 c =
-    omega (arith, c .before .before .before .before .before .before .before .before .before .before .before .before .before .loop-test .taken, c .before .before .before .before .before .before .before .before .before .before .before .before .before .before .loop .inv .0 .within, c .before .before .before .before .before .before .before .before .before .before .before .before .before .before .before .before .before .before .before .good .1 .0 .0)
+slice-aggregate-put-entry : tie.Need-slice-aggregate-put-entry Inv-loop μ-loop
+slice-aggregate-put-entry c = search needs
 
-sub-left-2 : tie.Need-sub-left-2 Inv-loop μ-loop
-sub-left-2 c =
-    c .before .before .before .before .before .before .before .before .before .before .before .before .before .loop-test .taken
+sub-put-entry : tie.Need-sub-put-entry Inv-loop μ-loop
+sub-put-entry c = search needs
 
-loop-less-2 : tie.Need-loop-less-2 Inv-loop μ-loop
-loop-less-2 c =
-    omega (arith, c .before .before .before .before .before .before .before .before .before .before .before .before .before .loop-test .taken)
+part-put-entry-start : tie.Need-part-put-entry-start Inv-loop μ-loop
+part-put-entry-start c = search needs
 
-loop-again-2 : tie.Need-loop-again-2 Inv-loop μ-loop
-loop-again-2 c =
-    let a = c .before .before .before .before .before .before .before .before .before .before .before .before .before .before .before .before .before .before .before .args in
-    let v = c .before .before .before .before .before .before .before .before .before .before .before .before .before .before .loop in
-    let g = v .inv .0 in
-    let k = c .before .before .before .before .before .list-record .ensures in
-    let room = length (now (a .out)) - v .place in
-    let roomy : 512 ≤ room = omega (arith, c .before .before .before .before .before .before .before .before .before .before .before .before .if1 .left, put-length (g .put)) in
-    let some : 0 < c .before .before .before .before .before .list-record .result .used = omega (arith, c .before .if3 .left) in
-    let long : length (c .before .before .before .before .before .before .before .before .before .before .gather .last .1 .1 .1 .1 .0) ≡ 18 = search needs in
-    (went g 1 (k .text) _ _ _ (k .goes some (v .left) room (c .before .before .before .before .before .before .before .before .before .before .before .before .before .loop-test .taken) roomy) (c .before .before .before .before .before .before .before .before .before .before .before .before .before .loop-test .taken) (k .short) roomy (k .put), k .idle, long)
+part-put-entry-end : tie.Need-part-put-entry-end Inv-loop μ-loop
+part-put-entry-end c = let st = stepped (c .before .before .before .before .before) in omega (arith, st .most, st .long)
+
+put-entry-requires : tie.Need-put-entry-requires Inv-loop μ-loop
+put-entry-requires c κs =
+    let j = c .before .before .before .before .before .before in
+    let st = stepped j in
+    let v = c .before .before .before .before .before .before .before .before .before .before .before .before .loop in
+    let size : length (take (j .if2 .count) (j .if2 .bytes)) ≡ j .if2 .count = length-take-le (j .if2 .count) (j .if2 .bytes) (omega (arith, st .most, st .long)) in
+    (c .before .before .before .before .before .before .before .before .before .before .before .before .before .before .digit-pairs .ensures, omega (arith, roomy j, put-length (v .inv .0 .put)), v .inv .3, rw sub-zero (λ h. st .handed (omega (arith, size))))
+
+mul-at : tie.Need-mul-at Inv-loop μ-loop
+mul-at c =
+    let st = stepped (c .before .before .before .before .before .before .before .before .before .before .before .before) in
+    omega (arith, st .fits, c .before .before .before .before .before .before .before .before .before .before .before .before .before .before .before .before .before .before .loop .inv .0 .within, c .before .before .before .before .before .before .before .before .before .before .before .before .before .before .before .before .before .before .before .before .before .before .before .good .1 .0 .0)
+
+add-at : tie.Need-add-at Inv-loop μ-loop
+add-at c =
+    let st = stepped (c .before .before .before .before .before .before .before .before .before .before .before .before) in
+    omega (arith, st .fits, c .before .before .before .before .before .before .before .before .before .before .before .before .before .before .before .before .before .before .loop .inv .0 .within, c .before .before .before .before .before .before .before .before .before .before .before .before .before .before .before .before .before .before .before .before .before .before .before .good .1 .0 .0)
+
+sub-left : tie.Need-sub-left Inv-loop μ-loop
+sub-left c = stepped (c .before .before .before .before .before .before .before .before .before .before .before .before) .fits
+
+loop-less : tie.Need-loop-less Inv-loop μ-loop
+loop-less c = let st = stepped (c .before .before .before .before .before .before .before .before .before .before .before .before) in omega (arith, st .some, st .fits)
+
+loop-again : tie.Need-loop-again Inv-loop μ-loop
+loop-again c =
+    let j = c .before .before .before .before .before .before .before .before .before .before .before .before in
+    let st = stepped j in
+    let g = c .before .before .before .before .before .before .before .before .before .before .before .before .before .before .before .before .before .before .loop .inv .0 in
+    let e = c .before .before .before .before .before .put-entry .ensures in
+    let size : length (take (j .if2 .count) (j .if2 .bytes)) ≡ j .if2 .count = length-take-le (j .if2 .count) (j .if2 .bytes) (omega (arith, st .most, st .long)) in
+    let text = entry (j .if2 .time) (take (j .if2 .count) (j .if2 .bytes)) in
+    let short : length text ≤ 512 = entry-short (j .if2 .time) (take (j .if2 .count) (j .if2 .bytes)) (omega (arith, size, st .most)) in
+    (went g (j .if2 .used) text (j .if2 .p) _ _ (st .goes) (st .fits) short (roomy j) (rw sub-zero at (e .0)), st .rests, st .long, e .1)
 
 listed-requires-3 : tie.Need-listed-requires-3 Inv-loop μ-loop
 listed-requires-3 c κs = search needs
@@ -185,22 +198,25 @@ list-block-spec =
     returns
     slice-aggregate-gather
     gather-requires
-    slice-aggregate-put-ahead
-    put-ahead-requires
-    handed-out-requires
+    tally-requires
+    sub-time-at
+    mul-time-at
+    add-time-at
+    time-at-requires
+    hear-record-requires
+    listed-requires-2
+    same-length-2
+    returns-2
+    slice-aggregate-put-entry
+    sub-put-entry
+    part-put-entry-start
+    part-put-entry-end
+    put-entry-requires
     mul-at
     add-at
     sub-left
     loop-less
     loop-again
-    list-record-requires
-    listed-requires-2
-    same-length-2
-    returns-2
-    add-at-2
-    sub-left-2
-    loop-less-2
-    loop-again-2
     listed-requires-3
     same-length-3
     returns-3)

@@ -1,0 +1,78 @@
+-- `hear_record` hears the record that stands there, as the walk does.
+use borrow.Author.Needs.{needs}
+use mathlib.Core.Path.{_≡_, refl, sym, ap, _∙_}
+use lib.ListN.{length}
+use Rattle.listener.specs.declared.Heard.{Heard}
+use Rattle.progress.specs.declared.Stop.the-variants.{Running, Stopped}
+use Rattle.listing.proofs.Takes.{took-one, took-none}
+use Rattle.listing.proofs.Walks.{walk-end, walk-refused}
+use Rattle.listing.proofs.block.hear_record.Statement.{statement}
+use Rattle.listing.proofs.block.hear_record.Tie as tie
+
+record-at-requires : tie.Need-record-at-requires
+record-at-requires c κs = search needs
+
+enum-told : tie.Need-enum-told
+enum-told c = search needs
+
+stopped-requires : tie.Need-stopped-requires
+stopped-requires c κs = search needs
+
+enum-known-r : tie.Need-enum-known-r
+enum-known-r c = search needs
+
+stopped-requires-2 : tie.Need-stopped-requires-2
+stopped-requires-2 c κs = search needs
+
+enum-known-time : tie.Need-enum-known-time
+enum-known-time c = search needs
+
+hear-requires : tie.Need-hear-requires
+hear-requires c κs = search needs
+
+advance-requires : tie.Need-advance-requires
+advance-requires c κs = search needs
+
+cast-t14 : tie.Need-cast-t14
+cast-t14 c = search needs
+
+returns : tie.Need-returns
+returns c =
+    let start = c .before .before .before .before .before in
+    let e = c .stopped .ensures in
+    took-none Running _
+    (λ left room some roomy. walk-end (start .args .input .now) (start .args .at) (start .args .p) left room some roomy (sym (c .before .before .before .record-at .ensures) ∙ c .before .enum-told .given .1))
+    (e .1) (e .2) (e .3)
+
+returns-2 : tie.Need-returns-2
+returns-2 c =
+    let start = c .before .before .before .before .before .before in
+    let r = c .before .before .r .given in
+    let e = c .stopped2 .ensures in
+    took-none (Stopped (r .0 .0)) _
+    (λ left room some roomy. walk-refused (start .args .input .now) (start .args .at) (start .args .p) left room some (r .0 .0) roomy (sym (c .before .before .before .before .record-at .ensures) ∙ r .1))
+    (e .1) (e .2) (e .3)
+
+returns-3 : tie.Need-returns-3
+returns-3 c =
+    let t = c .before .before .before .before .before .time .given in
+    let heard = c .before .before .before .hear .ensures in
+    let long : length (c .before .before .before .hear .result .bytes) ≡ 18 = search needs in
+    took-one (t .0 .0) (t .0 .1 .0) _ (sym (c .before .before .before .before .before .before .before .record-at .ensures) ∙ t .1) (c .before .advance .ensures ∙ rw heard) refl refl (ap (λ (h : Heard). h .count) heard) (ap (λ (h : Heard). h .bytes) heard) long
+
+pub hear-record-spec : {M : Type 1} → statement M
+hear-record-spec =
+    tie.close
+    (tie.spec
+    record-at-requires
+    enum-told
+    stopped-requires
+    enum-known-r
+    stopped-requires-2
+    enum-known-time
+    hear-requires
+    advance-requires
+    cast-t14
+    returns
+    returns-2
+    returns-3)

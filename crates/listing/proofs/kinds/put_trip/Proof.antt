@@ -1,0 +1,71 @@
+-- `put_trip` puts the name and the fields of what it read; it reads no message of another kind.
+use borrow.Author.Needs.{needs}
+use Rattle.message.specs.declared.Kind.the-variants as kind
+use Rattle.message.specs.Fields.{kindOf, fieldsOf}
+use Rattle.listing.proofs.Put.{put-then}
+use Rattle.listing.proofs.OfKind.{no-other, put-as, put-read}
+use Rattle.listing.proofs.kinds.put_trip.Statement.{statement}
+use Rattle.listing.proofs.kinds.put_trip.Tie as tie
+
+read-sized-requires : tie.Need-read-sized-requires
+read-sized-requires c κs = search needs
+
+enum-known-r : tie.Need-enum-known-r
+enum-known-r c = search needs
+
+put-refused-requires : tie.Need-put-refused-requires
+put-refused-requires c κs = search needs
+
+enum-known-m : tie.Need-enum-known-m
+enum-known-m c = search needs
+
+enum-known-m-2 : tie.Need-enum-known-m-2
+enum-known-m-2 c = search needs
+
+slice-aggregate-put-bytes : tie.Need-slice-aggregate-put-bytes
+slice-aggregate-put-bytes c = search needs
+
+put-bytes-requires : tie.Need-put-bytes-requires
+put-bytes-requires c κs = search needs
+
+put-number-requires : tie.Need-put-number-requires
+put-number-requires c κs = search needs
+
+same-length : tie.Need-same-length
+same-length c = search needs
+
+returns : tie.Need-returns
+returns c =
+    put-as (c .before .before .before .before .before .before .before .read-sized .ensures) (c .before .before .before .before .before .r .given .1) (c .before .before .put-refused .ensures)
+
+same-length-2 : tie.Need-same-length-2
+same-length-2 c = search needs
+
+returns-2 : tie.Need-returns-2
+unfolding kindOf fieldsOf
+returns-2 c =
+    put-read (c .before .before .before .before .before .before .before .before .before .before .before .before .before .before .before .read-sized .ensures) (c .before .before .before .before .before .before .before .before .before .before .before .before .before .m .given .1) (c .before .before .before .before .before .before .before .before .before .before .m2 .given .1)
+    (put-then (c .before .before .before .before .before .before .put-bytes .ensures) (c .before .before .put-number .ensures))
+
+returns-3 : tie.Need-returns-3
+returns-3 c =
+    let args = c .before .before .before .before .before .before .before .args in
+    absurd (no-other kind.Trip (args .size) (args .bytes .now) (c .before .before .before .before .read-sized .ensures) (c .before .before .m .given .1) (c .match2 .keys2))
+
+pub put-trip-spec : {M : Type 1} → statement M
+put-trip-spec =
+    tie.close
+    (tie.spec
+    read-sized-requires
+    enum-known-r
+    put-refused-requires
+    enum-known-m
+    enum-known-m-2
+    slice-aggregate-put-bytes
+    put-bytes-requires
+    put-number-requires
+    same-length
+    returns
+    same-length-2
+    returns-2
+    returns-3)

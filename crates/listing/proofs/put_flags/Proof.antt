@@ -1,0 +1,27 @@
+-- `put_flags` puts one flag after the other.
+use native.Mathlib.Omega.{arith}
+use mathlib.Core.List.{[], _∷_}
+use lib.IntN.{pos}
+use Rattle.number.specs.Word.{num}
+use Rattle.listing.proofs.Put.{put-length}
+use Rattle.listing.proofs.Spaced.{numbers-then, numbers-length}
+use Rattle.listing.proofs.put_flags.Statement.{statement}
+use Rattle.listing.proofs.put_flags.Tie as tie
+
+put-flag-requires : tie.Need-put-flag-requires
+put-flag-requires c κs = omega arith
+
+put-flag-requires-2 : tie.Need-put-flag-requires-2
+put-flag-requires-2 c κs =
+    omega (arith, c .before .before .before .put-flag .ensures .moved, put-length (c .before .before .before .put-flag .ensures), numbers-length (pos (num (c .before .before .before .before .before .before .args .a)) ∷ []))
+
+returns : tie.Need-returns
+returns c =
+    let start = c .before .before .before .before .before .before .before .before .before in
+    numbers-then (pos (num (start .args .a)) ∷ []) (pos (num (start .args .b)) ∷ []) (c .before .before .before .before .before .before .put-flag .ensures) (c .before .before .put-flag2 .ensures)
+
+same-length : tie.Need-same-length
+same-length c = put-length (returns c)
+
+pub put-flags-spec : {M : Type 1} → statement M
+put-flags-spec = tie.close (tie.spec put-flag-requires put-flag-requires-2 same-length returns)
