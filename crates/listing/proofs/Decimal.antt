@@ -128,7 +128,7 @@ by-enough (suc k) (suc f) (suc g) m xs ys p q h =
     go false e = e
 
 -- the hundreds, and then the last two digits
-pub decimal-hundreds : (n : ℕ) → 100 ≤ n → n < to 17 → decimal n ≡ decimal (n / 100) ++ pairOf (n % 100)
+decimal-hundreds : (n : ℕ) → 100 ≤ n → n < to 17 → decimal n ≡ decimal (n / 100) ++ pairOf (n % 100)
 unfolding decimal
 decimal-hundreds n g h =
     two-by 18 n [] g ∙ by-enough 17 18 20 (n / 100) [] (pairOf (n % 100)) (omega arith) (omega arith) (omega arith)

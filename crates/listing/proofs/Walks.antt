@@ -66,17 +66,6 @@ module _ {s before out : List ℕ} {begin p : Progress} {n left at place : ℕ} 
         stored = g .put .stored;
       })
 
-  -- nothing more was put
-  pub stayed : (later : List ℕ) (place′ : ℕ) → Put out place [] later place′ → Going s before begin n later p left at place
-  stayed later place′ put =
-      record {
-        text = g .text;
-        put = record { stored = put .stored ∙ g .put .stored; moved = g .put .moved };
-        rest = g .rest;
-        within = g .within;
-        fits = g .fits;
-      }
-
   -- so many records more, behind their text
   pub went : (used : ℕ) (text : List ℕ) (q : Progress) (later : List ℕ) (place′ : ℕ)
       → walkFrom left s at p (length before - place) ≡ behind text (walkFrom (left - used) s (at + 8 * used) q (length before - place - length text))

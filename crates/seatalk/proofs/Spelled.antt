@@ -1,15 +1,12 @@
 -- What the writer answers and has stored, into room for any datagram, is what the definition tells.
 use mathlib.Core.Path.{_≡_, refl, sym, ap, _∙_}
-use mathlib.Core.Bool.{true, _&&_, and-eq-true-iff}
-use mathlib.Core.List.{List, [], _∷_, _++_}
+use mathlib.Core.List.{List, _++_}
 use Prim.Native.Nat.{ℕ, _+_, _*_, _≤_}
 use native.Mathlib.Omega.{arith}
-use borrow.Author.Tests.{leb-true}
-use lib.Dec.{leb, eqb}
-use lib.ListN.{length, getD, take, drop, replicate, length-append}
+use lib.ListN.{length, take, drop, replicate, length-append}
 use lib.Seq.{take-at}
 use Rattle.datagram.specs.declared.Refusal.{Refusal}
-use Rattle.datagram.specs.Whole.{symbols, declared, whole}
+use Rattle.datagram.proofs.Whole.{declares, as-many}
 use Rattle.message.specs.declared.Message.{Message}
 use Rattle.message.specs.declared.Verdict.{Verdict}
 use Rattle.message.specs.declared.Verdict.the-variants as verdict
@@ -25,20 +22,9 @@ use Rattle.seatalk.specs.Write.{symbolBytes, symbolsBytes, writeTold}
 abbrev pub room : List ℕ
 room = replicate 18 0
 
--- a whole datagram has at most 18 bytes
-at-most-18 : (s : List ℕ) → whole s ≡ true → length s ≤ 18
-unfolding whole
-at-most-18 s w =
-    let last = eqb (length s) (declared (getD s 1 0)) in
-    leb-true (length s) 18 (and-eq-true-iff (leb (length s) 18) last .0 (and-eq-true-iff (leb 3 (length s)) (leb (length s) 18 && last) .0 w .1) .0)
-
-as-many : (s : List ℕ) → length (symbols s) ≡ length s
-as-many [] = refl
-as-many (b ∷ bs) = refl
-
 module _ (m : Message) where
   fits : length (bytesOf m) ≤ 18
-  fits = at-most-18 (bytesOf m) (round-trip .whole-datagram m)
+  fits = omega (arith, declares (bytesOf m) (round-trip .whole-datagram m))
 
   pub size : length (symbolsBytes (symbolsOf m)) ≡ 2 * length (bytesOf m)
   size = each-length symbolBytes 2 (λ s. refl) (symbolsOf m) ∙ ap (λ (n : ℕ). 2 * n) (as-many (bytesOf m))

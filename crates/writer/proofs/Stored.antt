@@ -1,7 +1,7 @@
 -- Symbols stored one after the other at the front of a part are what the definition stores there.
 use mathlib.Core.Path.{_≡_, refl, ap, _∙_}
 use mathlib.Core.Bool.{Bool, true, false, cond}
-use mathlib.Core.List.{List, [], _∷_, _++_, append-nil}
+use mathlib.Core.List.{List, [], _++_, append-nil}
 use Prim.Native.Nat.{ℕ, _+_, _-_, _≤_, _<_}
 use native.Mathlib.Nat.{zero-add}
 use native.Mathlib.Omega.{arith}
@@ -11,14 +11,11 @@ use lib.Seq.{sets, sets-eq, take-all, drop-drop}
 use borrow.Author.Tests.{le-leb, lt-leb}
 use Rattle.datagram.specs.Refusals.{noRoom}
 use Rattle.datagram.specs.Whole.{symbols}
+use Rattle.datagram.proofs.Whole.{as-many}
 use Rattle.message.specs.declared.Verdict.the-variants.{InRange}
 use Rattle.writer.specs.declared.Written.{Written}
 use Rattle.writer.specs.declared.Written.the-variants.{Wrote, Refused}
 use Rattle.writer.specs.Writing.{Outcome, outcome, storeOf, ruledWrite}
-
-as-many : (bytes : List ℕ) → length (symbols bytes) ≡ length bytes
-as-many [] = refl
-as-many (b ∷ bs) = refl
 
 pub stored : (bytes part : List ℕ) → length bytes ≤ length part → outcome (Wrote (length bytes)) (sets part 0 (symbols bytes)) ≡ storeOf bytes part
 stored bytes part h =

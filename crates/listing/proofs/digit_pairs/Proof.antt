@@ -3,8 +3,6 @@ use Rattle.listing.specs.Text.{digitPairs}
 use borrow.Author.Needs.{needs}
 use Rattle.listing.proofs.digit_pairs.Statement.{statement}
 use Rattle.listing.proofs.digit_pairs.Tie as tie
-use Rattle.listing.proofs.digit_pairs.Reads as reads
-use Rattle.listing.proofs.digit_pairs.Lts as lts
 
 -- src/lib.rt:58:1
 returns : tie.Need-returns

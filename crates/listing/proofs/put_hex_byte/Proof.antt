@@ -6,8 +6,6 @@ use Rattle.listing.proofs.Pairs.{hex-high, hex-low}
 use borrow.Author.Needs.{needs}
 use Rattle.listing.proofs.put_hex_byte.Statement.{statement}
 use Rattle.listing.proofs.put_hex_byte.Tie as tie
-use Rattle.listing.proofs.put_hex_byte.Reads as reads
-use Rattle.listing.proofs.put_hex_byte.Lts as lts
 
 mul-i : tie.Need-mul-i
 mul-i c = search needs

@@ -6,8 +6,6 @@ use Rattle.listing.proofs.Pairs.{pair-tens, pair-ones}
 use borrow.Author.Needs.{needs}
 use Rattle.listing.proofs.store_pair.Statement.{statement}
 use Rattle.listing.proofs.store_pair.Tie as tie
-use Rattle.listing.proofs.store_pair.Reads as reads
-use Rattle.listing.proofs.store_pair.Lts as lts
 
 mul-i : tie.Need-mul-i
 mul-i c = search needs
