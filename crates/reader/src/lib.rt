@@ -30,7 +30,7 @@ fn byte_at(bytes: &[u8], i: usize) -> u8
 }
 
 // Reads a whole datagram by the row that its command was found at: the message, or refusal 4, 5, 6 or 7.
-pub fn read_as(found: Lookup, bytes: &[u8]) -> Reading
+fn read_as(found: Lookup, bytes: &[u8]) -> Reading
     ensures { λ r. ⌜ r ≡ readAs found (now (bytes .entry)) ⌝ }
 {
     match found {
