@@ -3,13 +3,14 @@ use Prim.Native.Nat.{ℕ}
 use mathlib.Core.Bool.{cond}
 use mathlib.Core.List.{List, [], _∷_}
 use lib.Dec.{eqb}
+use lib.ListN.{drop}
 use Rattle.message.specs.declared.Kind.{Kind}
 use Rattle.message.specs.declared.Kind.the-variants.{Depth, WindAngle, WindSpeed, Speed, Trip, Total, Logs, Speeds, Water, Lamp, Latitude, Longitude, Ground, Course, Time, Date, Key, Heading, Variation, Turn}
 use Rattle.message.specs.declared.Row.{Row}
 use Rattle.message.specs.declared.Lookup.{Lookup}
 use Rattle.message.specs.declared.Lookup.the-variants.{Found, Unknown}
 
-abbrev pub row : ℕ → ℕ → Kind → Row
+abbrev row : ℕ → ℕ → Kind → Row
 row command length kind = record { command = command; length = length; kind = kind }
 
 unfoldable pub kinds : List Row
@@ -42,3 +43,11 @@ rowIn (r ∷ rs) command = cond (eqb (r .command) command) (Found r) (rowIn rs c
 
 unfoldable pub findOf : ℕ → Lookup
 findOf command = rowIn kinds command
+
+abbrev pub first : List Row → Lookup
+first [] = Unknown
+first (r ∷ rs) = Found r
+
+-- the row of a number, counted from 0
+unfoldable pub rowAt : ℕ → Lookup
+rowAt place = first (drop place kinds)

@@ -3,7 +3,7 @@ pub mod range;
 
 use datagram::Refusal;
 ghost use mathlib.Core.Path.{_≡_};
-ghost use Rattle.message.specs.Table.{findOf, row};
+ghost use Rattle.message.specs.Table.{findOf, rowAt};
 
 // A kind of message, by its name in the table of document 01.
 pub enum Kind {
@@ -142,42 +142,160 @@ pub enum Lookup {
     Unknown,
 }
 
-// A row as what was found.
-fn found(command: u8, length: u8, kind: Kind) -> Lookup
-    ensures { λ r. ⌜ r ≡ Lookup.Found (row command length kind) ⌝ }
+// The one table of kinds, in the order of their commands.
+pub const KINDS: [Row; 20] = [
+    Row {
+        command: 0x00,
+        length: 5,
+        kind: Kind::Depth,
+    },
+    Row {
+        command: 0x10,
+        length: 4,
+        kind: Kind::WindAngle,
+    },
+    Row {
+        command: 0x11,
+        length: 4,
+        kind: Kind::WindSpeed,
+    },
+    Row {
+        command: 0x20,
+        length: 4,
+        kind: Kind::Speed,
+    },
+    Row {
+        command: 0x21,
+        length: 5,
+        kind: Kind::Trip,
+    },
+    Row {
+        command: 0x22,
+        length: 5,
+        kind: Kind::Total,
+    },
+    Row {
+        command: 0x25,
+        length: 7,
+        kind: Kind::Logs,
+    },
+    Row {
+        command: 0x26,
+        length: 7,
+        kind: Kind::Speeds,
+    },
+    Row {
+        command: 0x27,
+        length: 4,
+        kind: Kind::Water,
+    },
+    Row {
+        command: 0x30,
+        length: 3,
+        kind: Kind::Lamp,
+    },
+    Row {
+        command: 0x50,
+        length: 5,
+        kind: Kind::Latitude,
+    },
+    Row {
+        command: 0x51,
+        length: 5,
+        kind: Kind::Longitude,
+    },
+    Row {
+        command: 0x52,
+        length: 4,
+        kind: Kind::Ground,
+    },
+    Row {
+        command: 0x53,
+        length: 3,
+        kind: Kind::Course,
+    },
+    Row {
+        command: 0x54,
+        length: 4,
+        kind: Kind::Time,
+    },
+    Row {
+        command: 0x56,
+        length: 4,
+        kind: Kind::Date,
+    },
+    Row {
+        command: 0x86,
+        length: 4,
+        kind: Kind::Key,
+    },
+    Row {
+        command: 0x89,
+        length: 5,
+        kind: Kind::Heading,
+    },
+    Row {
+        command: 0x99,
+        length: 3,
+        kind: Kind::Variation,
+    },
+    Row {
+        command: 0x9C,
+        length: 4,
+        kind: Kind::Turn,
+    },
+];
+
+// The number of the table's row for a command, or 20 where there is none.
+fn place_of(command: u8) -> usize
+    ensures { λ r. ⌜ rowAt r ≡ findOf command ⌝ }
 {
-    Lookup::Found(Row {
-        command: command,
-        length: length,
-        kind: kind,
-    })
+    let table = KINDS;
+    let mut i = 0;
+    while i < 20 {
+        let row = table[i];
+        if row.command == command {
+            return i;
+        }
+        i += 1;
+    }
+    20
 }
 
-// The table's row for a command: the one table of kinds, in the order of their commands.
+// The row of a number. Each index is a constant, so that the compiler needs no table in memory: behind a search of it
+// only one jump by the command is left.
+fn row_at(place: usize) -> Lookup
+    ensures { λ r. ⌜ r ≡ rowAt place ⌝ }
+{
+    let table = KINDS;
+    match place {
+        0 => Lookup::Found(table[0]),
+        1 => Lookup::Found(table[1]),
+        2 => Lookup::Found(table[2]),
+        3 => Lookup::Found(table[3]),
+        4 => Lookup::Found(table[4]),
+        5 => Lookup::Found(table[5]),
+        6 => Lookup::Found(table[6]),
+        7 => Lookup::Found(table[7]),
+        8 => Lookup::Found(table[8]),
+        9 => Lookup::Found(table[9]),
+        10 => Lookup::Found(table[10]),
+        11 => Lookup::Found(table[11]),
+        12 => Lookup::Found(table[12]),
+        13 => Lookup::Found(table[13]),
+        14 => Lookup::Found(table[14]),
+        15 => Lookup::Found(table[15]),
+        16 => Lookup::Found(table[16]),
+        17 => Lookup::Found(table[17]),
+        18 => Lookup::Found(table[18]),
+        19 => Lookup::Found(table[19]),
+        _ => Lookup::Unknown,
+    }
+}
+
+// The table's row for a command.
 pub fn find(command: u8) -> Lookup
     ensures { λ r. ⌜ r ≡ findOf command ⌝ }
 {
-    match command {
-        0x00 => found(0x00, 5, Kind::Depth),
-        0x10 => found(0x10, 4, Kind::WindAngle),
-        0x11 => found(0x11, 4, Kind::WindSpeed),
-        0x20 => found(0x20, 4, Kind::Speed),
-        0x21 => found(0x21, 5, Kind::Trip),
-        0x22 => found(0x22, 5, Kind::Total),
-        0x25 => found(0x25, 7, Kind::Logs),
-        0x26 => found(0x26, 7, Kind::Speeds),
-        0x27 => found(0x27, 4, Kind::Water),
-        0x30 => found(0x30, 3, Kind::Lamp),
-        0x50 => found(0x50, 5, Kind::Latitude),
-        0x51 => found(0x51, 5, Kind::Longitude),
-        0x52 => found(0x52, 4, Kind::Ground),
-        0x53 => found(0x53, 3, Kind::Course),
-        0x54 => found(0x54, 4, Kind::Time),
-        0x56 => found(0x56, 4, Kind::Date),
-        0x86 => found(0x86, 4, Kind::Key),
-        0x89 => found(0x89, 5, Kind::Heading),
-        0x99 => found(0x99, 3, Kind::Variation),
-        0x9C => found(0x9C, 4, Kind::Turn),
-        _ => Lookup::Unknown,
-    }
+    row_at(place_of(command))
 }
