@@ -218,7 +218,7 @@ fn store_kept(out: &mut [u8], at: usize, digits: &[u8])
 
 // Puts a time in decimal, where the digits before its last four are kept. Six are stored, and those past their number
 // stored over.
-fn put_time(
+fn put_stamp(
     pairs: &[u8; 712],
     out: &mut [u8],
     at: usize,
@@ -406,7 +406,7 @@ fn put_line(
     requires { ⌜ (now pairs ≡ digitPairs) × (whole (now bytes) ≡ true) × (at + 512 ≤ length (now out)) × Kept (now digits) (time / 10000) count ⌝ }
     ensures { λ r. ⌜ Put (now (out .entry)) at (lineOf time (now (bytes .entry))) (now (out .exit)) r ⌝ }
 {
-    let mut p = put_time(pairs, out, at, digits, count, time);
+    let mut p = put_stamp(pairs, out, at, digits, count, time);
     p = put_hex(pairs, out, p, bytes);
     p = put_reading(pairs, out, p, message::find(bytes[0]), bytes);
     out[p] = 10;

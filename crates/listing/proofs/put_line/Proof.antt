@@ -10,13 +10,13 @@ use Rattle.listing.proofs.Lines.{content-most, read-whole}
 use Rattle.listing.proofs.put_line.Statement.{statement}
 use Rattle.listing.proofs.put_line.Tie as tie
 
-put-time-requires : tie.Need-put-time-requires
-put-time-requires c κs = search needs
+put-stamp-requires : tie.Need-put-stamp-requires
+put-stamp-requires c κs = search needs
 
 put-hex-requires : tie.Need-put-hex-requires
 put-hex-requires c κs =
     let start = c .before .before .before .before .before .before .before .before in
-    let p = c .before .before .before .put-time .ensures in
+    let p = c .before .before .before .put-stamp .ensures in
     let whole = declares (start .args .bytes .now) (start .pre .1) in
     (start .pre .0, omega (arith, whole), omega (arith, p .moved, put-length p, decimal-most (start .args .time)))
 
@@ -30,7 +30,7 @@ find-requires c κs = search needs
 put-reading-requires : tie.Need-put-reading-requires
 put-reading-requires c κs =
     let start = c .before .before .before .before .before .before .before .before .before .before .before .before .before .before in
-    let p = c .before .before .before .before .before .before .before .before .before .put-time .ensures in
+    let p = c .before .before .before .before .before .before .before .before .before .put-stamp .ensures in
     let q = c .before .before .before .before .before .put-hex .ensures in
     let bytes = start .args .bytes .now in
     (start .pre .0, omega (arith, p .moved, q .moved, put-length p, put-length q, decimal-most (start .args .time), hex-length bytes, declares bytes (start .pre .1)))
@@ -38,7 +38,7 @@ put-reading-requires c κs =
 slice-write-out : tie.Need-slice-write-out
 slice-write-out c =
     let start = c .before .before .before .before .before .before .before .before .before .before .before .before .before .before .before .before .before in
-    let p = c .before .before .before .before .before .before .before .before .before .before .before .before .put-time .ensures in
+    let p = c .before .before .before .before .before .before .before .before .before .before .before .before .put-stamp .ensures in
     let q = c .before .before .before .before .before .before .before .before .put-hex .ensures in
     let r = c .before .before .put-reading .ensures in
     let bytes = start .args .bytes .now in
@@ -52,7 +52,7 @@ returns c =
     let start = c .before .before .before .before .before .before .before .before .before .before .before .before .before .before .before .before .before in
     let content = rw (c .before .before .before .find .ensures) at (c .before .before .put-reading .ensures) in
     rw (read-whole (start .args .bytes .now) (start .pre .1))
-    (put-then (c .before .before .before .before .before .before .before .before .before .before .before .before .put-time .ensures) (put-then (c .before .before .before .before .before .before .before .before .put-hex .ensures) (put-then content (put-one _ _ 10))))
+    (put-then (c .before .before .before .before .before .before .before .before .before .before .before .before .put-stamp .ensures) (put-then (c .before .before .before .before .before .before .before .before .put-hex .ensures) (put-then content (put-one _ _ 10))))
 
 same-length : tie.Need-same-length
 same-length c = put-length (returns c)
@@ -61,7 +61,7 @@ pub put-line-spec : {M : Type 1} → statement M
 put-line-spec =
     tie.close
     (tie.spec
-    put-time-requires
+    put-stamp-requires
     put-hex-requires
     shared-slice-read-find
     find-requires

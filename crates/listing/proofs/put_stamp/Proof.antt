@@ -1,10 +1,10 @@
--- `put_time` stores the kept digits and then two pairs, the first where the kept digits end.
+-- `put_stamp` stores the kept digits and then two pairs, the first where the kept digits end.
 use borrow.Author.Needs.{needs}
 use native.Mathlib.Omega.{arith}
 use Rattle.listing.proofs.Put.{put-then, put-length}
 use Rattle.listing.proofs.Times.{at-most-six, time-put}
-use Rattle.listing.proofs.put_time.Statement.{statement}
-use Rattle.listing.proofs.put_time.Tie as tie
+use Rattle.listing.proofs.put_stamp.Statement.{statement}
+use Rattle.listing.proofs.put_stamp.Tie as tie
 
 put-decimal-requires : tie.Need-put-decimal-requires
 put-decimal-requires c κs = search needs
@@ -44,8 +44,8 @@ returns-2 c =
 same-length-2 : tie.Need-same-length-2
 same-length-2 c = put-length (returns-2 c)
 
-pub put-time-spec : {M : Type 1} → statement M
-put-time-spec =
+pub put-stamp-spec : {M : Type 1} → statement M
+put-stamp-spec =
     tie.close
     (tie.spec
     put-decimal-requires
