@@ -5,3 +5,4 @@ pub mod Cuts
 pub mod Pieces
 pub mod Counts
 pub mod Laws
+pub mod Document

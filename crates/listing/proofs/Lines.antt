@@ -15,7 +15,7 @@ use Rattle.message.specs.declared.Reading.the-variants.{Read, Refused}
 use Rattle.message.specs.Fields.{kindOf, fieldsOf}
 use Rattle.message.specs.Reading.{byte, readAs, readOf}
 use Rattle.message.specs.Table.{findOf}
-use Rattle.listing.specs.Words.{nameOf}
+use Rattle.listing.specs.Names.{nameOf}
 use Rattle.listing.specs.Line.{contentOf}
 use Rattle.listing.specs.Walk.{stopText}
 use Rattle.progress.specs.declared.Stop.{Stop}

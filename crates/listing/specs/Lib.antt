@@ -1,5 +1,5 @@
 pub mod Text
-pub mod Words
+pub mod Names
 pub mod Line
 pub mod Walk
 pub mod Taken
