@@ -3,7 +3,7 @@ pub mod range;
 
 use datagram::Refusal;
 ghost use mathlib.Core.Path.{_≡_};
-ghost use Rattle.message.specs.Table.{findOf, rowAt};
+ghost use Rattle.message.specs.Table.{kinds, findOf, rowAt};
 
 // A kind of message, by its name in the table of document 01.
 pub enum Kind {
@@ -246,11 +246,18 @@ pub const KINDS: [Row; 20] = [
     },
 ];
 
+// The table as an array.
+fn rows() -> [Row; 20]
+    ensures { λ r. ⌜ r ≡ kinds ⌝ }
+{
+    KINDS
+}
+
 // The number of the table's row for a command, or 20 where there is none.
 fn place_of(command: u8) -> usize
     ensures { λ r. ⌜ rowAt r ≡ findOf command ⌝ }
 {
-    let table = KINDS;
+    let table = rows();
     let mut i = 0;
     while i < 20 {
         let row = table[i];
@@ -262,12 +269,12 @@ fn place_of(command: u8) -> usize
     20
 }
 
-// The row of a number. Each index is a constant, so that the compiler needs no table in memory: behind a search of it
-// only one jump by the command is left.
+// The row of a number. Each index is a constant, so that the compiler lays no table out in memory: of the search and this
+// it leaves one jump by the command.
 fn row_at(place: usize) -> Lookup
     ensures { λ r. ⌜ r ≡ rowAt place ⌝ }
 {
-    let table = KINDS;
+    let table = rows();
     match place {
         0 => Lookup::Found(table[0]),
         1 => Lookup::Found(table[1]),

@@ -9,7 +9,6 @@ use Prim.Native.Nat.{ℕ, _+_, _<_, _≤_, _-_}
 use lib.ListN.{length, getD, drop}
 use lib.Seq.{drop-cons}
 use Rattle.message.specs.declared.Row.{Row}
-use Rattle.message.specs.declared.Lookup.the-variants.{Found}
 use Rattle.message.specs.Table.{kinds, rowIn, findOf, rowAt, first}
 use Rattle.message.proofs.place_of.Statement.{statement}
 use Rattle.message.proofs.place_of.Tie as tie
@@ -26,6 +25,9 @@ Inv-loop command table i₀ i = (i ≤ 20) × (findOf command ≡ rowIn (drop i 
 abbrev μ-loop : tie.MeasureT-loop
 μ-loop command table i₀ i = 20 - i
 
+rows-requires : tie.Need-rows-requires Inv-loop μ-loop
+rows-requires c κs = search needs
+
 loop-holds : tie.Need-loop-holds Inv-loop μ-loop
 unfolding findOf
 loop-holds c = (search needs, refl)
@@ -38,7 +40,9 @@ array-copy-out-row c = search needs
 
 returns : tie.Need-returns Inv-loop μ-loop
 unfolding kinds rowAt
-returns c = sym (c .before .before .before .before .loop .inv .1 ∙ row-hit kinds (c .before .before .before .before .loop .i) _ _ (search needs) (c .if1 .taken))
+returns c =
+    let table = c .before .before .before .before .before .rows .ensures in
+    sym (c .before .before .before .before .loop .inv .1 ∙ row-hit kinds (c .before .before .before .before .loop .i) _ _ (search needs) (rw table at (c .if1 .taken)))
 
 add-i : tie.Need-add-i Inv-loop μ-loop
 add-i c = search needs
@@ -48,13 +52,15 @@ loop-less c = search needs
 
 loop-again : tie.Need-loop-again Inv-loop μ-loop
 unfolding kinds
-loop-again c = (search needs, c .before .before .before .before .loop .inv .1 ∙ row-miss kinds (c .before .before .before .before .loop .i) _ _ (search needs) (c .if1 .left))
+loop-again c =
+    let table = c .before .before .before .before .before .rows .ensures in
+    (search needs, c .before .before .before .before .loop .inv .1 ∙ row-miss kinds (c .before .before .before .before .loop .i) _ _ (search needs) (rw table at (c .if1 .left)))
 
 returns-2 : tie.Need-returns-2 Inv-loop μ-loop
 unfolding kinds rowAt
 returns-2 c =
     let end : c .before .loop .i ≡ 20 = omega arith in
-    sym (c .before .loop .inv .1 ∙ ap (λ (i : ℕ). rowIn (drop i kinds) (c .before .before .args .command)) end)
+    sym (c .before .loop .inv .1 ∙ ap (λ (i : ℕ). rowIn (drop i kinds) (c .before .before .before .args .command)) end)
 
 pub place-of-spec : {M : Type 1} → statement M
 place-of-spec =
@@ -62,6 +68,7 @@ place-of-spec =
     (tie.spec
     Inv-loop
     μ-loop
+    rows-requires
     loop-holds
     mul-row
     array-copy-out-row

@@ -17,174 +17,178 @@ skipped : (n place : ℕ) → Skipped n place → n ≤ place
 skipped zero place s = omega arith
 skipped (suc n) place s = let before = skipped n place (s .0) in omega (arith, before, s .1)
 
-array-copy-out-t47 : tie.Need-array-copy-out-t47
-array-copy-out-t47 c = search needs
+rows-requires : tie.Need-rows-requires
+rows-requires c κs = search needs
 
-array-copy-out-t50 : tie.Need-array-copy-out-t50
-array-copy-out-t50 c = search needs
+array-copy-out-t7 : tie.Need-array-copy-out-t7
+array-copy-out-t7 c = search needs
 
-array-copy-out-t53 : tie.Need-array-copy-out-t53
-array-copy-out-t53 c = search needs
+array-copy-out-t10 : tie.Need-array-copy-out-t10
+array-copy-out-t10 c = search needs
 
-array-copy-out-t56 : tie.Need-array-copy-out-t56
-array-copy-out-t56 c = search needs
+array-copy-out-t13 : tie.Need-array-copy-out-t13
+array-copy-out-t13 c = search needs
 
-array-copy-out-t59 : tie.Need-array-copy-out-t59
-array-copy-out-t59 c = search needs
+array-copy-out-t16 : tie.Need-array-copy-out-t16
+array-copy-out-t16 c = search needs
 
-array-copy-out-t62 : tie.Need-array-copy-out-t62
-array-copy-out-t62 c = search needs
+array-copy-out-t19 : tie.Need-array-copy-out-t19
+array-copy-out-t19 c = search needs
 
-array-copy-out-t65 : tie.Need-array-copy-out-t65
-array-copy-out-t65 c = search needs
+array-copy-out-t22 : tie.Need-array-copy-out-t22
+array-copy-out-t22 c = search needs
 
-array-copy-out-t68 : tie.Need-array-copy-out-t68
-array-copy-out-t68 c = search needs
+array-copy-out-t25 : tie.Need-array-copy-out-t25
+array-copy-out-t25 c = search needs
 
-array-copy-out-t71 : tie.Need-array-copy-out-t71
-array-copy-out-t71 c = search needs
+array-copy-out-t28 : tie.Need-array-copy-out-t28
+array-copy-out-t28 c = search needs
 
-array-copy-out-t74 : tie.Need-array-copy-out-t74
-array-copy-out-t74 c = search needs
+array-copy-out-t31 : tie.Need-array-copy-out-t31
+array-copy-out-t31 c = search needs
 
-array-copy-out-t77 : tie.Need-array-copy-out-t77
-array-copy-out-t77 c = search needs
+array-copy-out-t34 : tie.Need-array-copy-out-t34
+array-copy-out-t34 c = search needs
 
-array-copy-out-t80 : tie.Need-array-copy-out-t80
-array-copy-out-t80 c = search needs
+array-copy-out-t37 : tie.Need-array-copy-out-t37
+array-copy-out-t37 c = search needs
 
-array-copy-out-t83 : tie.Need-array-copy-out-t83
-array-copy-out-t83 c = search needs
+array-copy-out-t40 : tie.Need-array-copy-out-t40
+array-copy-out-t40 c = search needs
 
-array-copy-out-t86 : tie.Need-array-copy-out-t86
-array-copy-out-t86 c = search needs
+array-copy-out-t43 : tie.Need-array-copy-out-t43
+array-copy-out-t43 c = search needs
 
-array-copy-out-t89 : tie.Need-array-copy-out-t89
-array-copy-out-t89 c = search needs
+array-copy-out-t46 : tie.Need-array-copy-out-t46
+array-copy-out-t46 c = search needs
 
-array-copy-out-t92 : tie.Need-array-copy-out-t92
-array-copy-out-t92 c = search needs
+array-copy-out-t49 : tie.Need-array-copy-out-t49
+array-copy-out-t49 c = search needs
 
-array-copy-out-t95 : tie.Need-array-copy-out-t95
-array-copy-out-t95 c = search needs
+array-copy-out-t52 : tie.Need-array-copy-out-t52
+array-copy-out-t52 c = search needs
 
-array-copy-out-t98 : tie.Need-array-copy-out-t98
-array-copy-out-t98 c = search needs
+array-copy-out-t55 : tie.Need-array-copy-out-t55
+array-copy-out-t55 c = search needs
 
-array-copy-out-t101 : tie.Need-array-copy-out-t101
-array-copy-out-t101 c = search needs
+array-copy-out-t58 : tie.Need-array-copy-out-t58
+array-copy-out-t58 c = search needs
 
-array-copy-out-t104 : tie.Need-array-copy-out-t104
-array-copy-out-t104 c = search needs
+array-copy-out-t61 : tie.Need-array-copy-out-t61
+array-copy-out-t61 c = search needs
+
+array-copy-out-t64 : tie.Need-array-copy-out-t64
+array-copy-out-t64 c = search needs
 
 returns : tie.Need-returns
 unfolding kinds rowAt
-returns c = rw (c .before .match .keys1) refl
+returns c = rw (c .before .match .keys1, c .before .before .rows .ensures) refl
 
 returns-2 : tie.Need-returns-2
 unfolding kinds rowAt
-returns-2 c = rw (c .before .match .keys2) refl
+returns-2 c = rw (c .before .match .keys2, c .before .before .rows .ensures) refl
 
 returns-3 : tie.Need-returns-3
 unfolding kinds rowAt
-returns-3 c = rw (c .before .match .keys3) refl
+returns-3 c = rw (c .before .match .keys3, c .before .before .rows .ensures) refl
 
 returns-4 : tie.Need-returns-4
 unfolding kinds rowAt
-returns-4 c = rw (c .before .match .keys4) refl
+returns-4 c = rw (c .before .match .keys4, c .before .before .rows .ensures) refl
 
 returns-5 : tie.Need-returns-5
 unfolding kinds rowAt
-returns-5 c = rw (c .before .match .keys5) refl
+returns-5 c = rw (c .before .match .keys5, c .before .before .rows .ensures) refl
 
 returns-6 : tie.Need-returns-6
 unfolding kinds rowAt
-returns-6 c = rw (c .before .match .keys6) refl
+returns-6 c = rw (c .before .match .keys6, c .before .before .rows .ensures) refl
 
 returns-7 : tie.Need-returns-7
 unfolding kinds rowAt
-returns-7 c = rw (c .before .match .keys7) refl
+returns-7 c = rw (c .before .match .keys7, c .before .before .rows .ensures) refl
 
 returns-8 : tie.Need-returns-8
 unfolding kinds rowAt
-returns-8 c = rw (c .before .match .keys8) refl
+returns-8 c = rw (c .before .match .keys8, c .before .before .rows .ensures) refl
 
 returns-9 : tie.Need-returns-9
 unfolding kinds rowAt
-returns-9 c = rw (c .before .match .keys9) refl
+returns-9 c = rw (c .before .match .keys9, c .before .before .rows .ensures) refl
 
 returns-10 : tie.Need-returns-10
 unfolding kinds rowAt
-returns-10 c = rw (c .before .match .keys10) refl
+returns-10 c = rw (c .before .match .keys10, c .before .before .rows .ensures) refl
 
 returns-11 : tie.Need-returns-11
 unfolding kinds rowAt
-returns-11 c = rw (c .before .match .keys11) refl
+returns-11 c = rw (c .before .match .keys11, c .before .before .rows .ensures) refl
 
 returns-12 : tie.Need-returns-12
 unfolding kinds rowAt
-returns-12 c = rw (c .before .match .keys12) refl
+returns-12 c = rw (c .before .match .keys12, c .before .before .rows .ensures) refl
 
 returns-13 : tie.Need-returns-13
 unfolding kinds rowAt
-returns-13 c = rw (c .before .match .keys13) refl
+returns-13 c = rw (c .before .match .keys13, c .before .before .rows .ensures) refl
 
 returns-14 : tie.Need-returns-14
 unfolding kinds rowAt
-returns-14 c = rw (c .before .match .keys14) refl
+returns-14 c = rw (c .before .match .keys14, c .before .before .rows .ensures) refl
 
 returns-15 : tie.Need-returns-15
 unfolding kinds rowAt
-returns-15 c = rw (c .before .match .keys15) refl
+returns-15 c = rw (c .before .match .keys15, c .before .before .rows .ensures) refl
 
 returns-16 : tie.Need-returns-16
 unfolding kinds rowAt
-returns-16 c = rw (c .before .match .keys16) refl
+returns-16 c = rw (c .before .match .keys16, c .before .before .rows .ensures) refl
 
 returns-17 : tie.Need-returns-17
 unfolding kinds rowAt
-returns-17 c = rw (c .before .match .keys17) refl
+returns-17 c = rw (c .before .match .keys17, c .before .before .rows .ensures) refl
 
 returns-18 : tie.Need-returns-18
 unfolding kinds rowAt
-returns-18 c = rw (c .before .match .keys18) refl
+returns-18 c = rw (c .before .match .keys18, c .before .before .rows .ensures) refl
 
 returns-19 : tie.Need-returns-19
 unfolding kinds rowAt
-returns-19 c = rw (c .before .match .keys19) refl
+returns-19 c = rw (c .before .match .keys19, c .before .before .rows .ensures) refl
 
 returns-20 : tie.Need-returns-20
 unfolding kinds rowAt
-returns-20 c = rw (c .before .match .keys20) refl
+returns-20 c = rw (c .before .match .keys20, c .before .before .rows .ensures) refl
 
 returns-21 : tie.Need-returns-21
 unfolding kinds rowAt
-returns-21 c = sym (ap first (drop-of-length-le kinds (skipped 20 (c .before .args .place) (c .match .rest))))
+returns-21 c = sym (ap first (drop-of-length-le kinds (skipped 20 (c .before .before .args .place) (c .match .rest))))
 
 pub row-at-spec : {M : Type 1} → statement M
 row-at-spec =
     tie.close
     (tie.spec
-    array-copy-out-t47
-    array-copy-out-t50
-    array-copy-out-t53
-    array-copy-out-t56
-    array-copy-out-t59
-    array-copy-out-t62
-    array-copy-out-t65
-    array-copy-out-t68
-    array-copy-out-t71
-    array-copy-out-t74
-    array-copy-out-t77
-    array-copy-out-t80
-    array-copy-out-t83
-    array-copy-out-t86
-    array-copy-out-t89
-    array-copy-out-t92
-    array-copy-out-t95
-    array-copy-out-t98
-    array-copy-out-t101
-    array-copy-out-t104
+    rows-requires
+    array-copy-out-t7
+    array-copy-out-t10
+    array-copy-out-t13
+    array-copy-out-t16
+    array-copy-out-t19
+    array-copy-out-t22
+    array-copy-out-t25
+    array-copy-out-t28
+    array-copy-out-t31
+    array-copy-out-t34
+    array-copy-out-t37
+    array-copy-out-t40
+    array-copy-out-t43
+    array-copy-out-t46
+    array-copy-out-t49
+    array-copy-out-t52
+    array-copy-out-t55
+    array-copy-out-t58
+    array-copy-out-t61
+    array-copy-out-t64
     returns
     returns-2
     returns-3
