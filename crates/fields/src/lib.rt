@@ -14,32 +14,12 @@ pub struct Fields {
     pub count: u8,
 }
 
-// The message's command.
+// The command of the message's row in the table.
 pub fn command_of(m: Message) -> u8
     ensures { λ r. ⌜ r ≡ commandOf m ⌝ }
 {
-    match m {
-        Message::Depth { .. } => 0x00,
-        Message::WindAngle { .. } => 0x10,
-        Message::WindSpeed { .. } => 0x11,
-        Message::Speed { .. } => 0x20,
-        Message::Trip { .. } => 0x21,
-        Message::Total { .. } => 0x22,
-        Message::Logs { .. } => 0x25,
-        Message::Speeds { .. } => 0x26,
-        Message::Water { .. } => 0x27,
-        Message::Lamp { .. } => 0x30,
-        Message::Latitude { .. } => 0x50,
-        Message::Longitude { .. } => 0x51,
-        Message::Ground { .. } => 0x52,
-        Message::Course { .. } => 0x53,
-        Message::Time { .. } => 0x54,
-        Message::Date { .. } => 0x56,
-        Message::Key { .. } => 0x86,
-        Message::Heading { .. } => 0x89,
-        Message::Variation { .. } => 0x99,
-        Message::Turn { .. } => 0x9C,
-    }
+    let row = message::row_of(message::kind_of(m));
+    row.command
 }
 
 fn flag_value(on: bool) -> i64

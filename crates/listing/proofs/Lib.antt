@@ -3,7 +3,6 @@ pub mod Decimal
 pub mod Gathering
 pub mod Handed
 pub mod Lines
-pub mod OfKind
 pub mod Pairs
 pub mod Put
 pub mod Short

@@ -1,11 +1,7 @@
 -- The parts of a line: how long each may be, and what a whole datagram reads as.
-use mathlib.Core.Path.{_≡_}
-use mathlib.Core.Bool.{true}
-use mathlib.Core.List.{List}
-use Prim.Native.Nat.{ℕ, _≤_}
+use Prim.Native.Nat.{_≤_}
 use native.Mathlib.Omega.{arith}
 use lib.ListN.{length, length-append}
-use Rattle.datagram.specs.Whole.{whole}
 use Rattle.message.specs.declared.Kind.{Kind}
 use Rattle.message.specs.declared.Kind.the-variants as kind
 use Rattle.message.specs.declared.Message.{Message}
@@ -13,8 +9,6 @@ use Rattle.message.specs.declared.Message.the-variants.{Depth, WindAngle, WindS
 use Rattle.message.specs.declared.Reading.{Reading}
 use Rattle.message.specs.declared.Reading.the-variants.{Read, Refused}
 use Rattle.message.specs.Fields.{kindOf, fieldsOf}
-use Rattle.message.specs.Reading.{byte, readAs, readOf}
-use Rattle.message.specs.Table.{findOf}
 use Rattle.listing.specs.Names.{nameOf}
 use Rattle.listing.specs.Line.{contentOf}
 use Rattle.listing.specs.Walk.{stopText}
@@ -72,11 +66,6 @@ pub content-most : (reading : Reading) → length (contentOf reading) ≤ 142
 content-most (Read m) =
     simp length-append (omega (arith, name-most (kindOf m), numbers-length (fieldsOf m), fields-most m))
 content-most (Refused r) = omega (arith, decimal-most (r .number))
-
--- a whole datagram is read by the row of its command
-pub read-whole : (s : List ℕ) → whole s ≡ true → readOf s ≡ readAs (findOf (byte s 0)) s
-unfolding readOf
-read-whole s w = rw w
 
 pub stop-most : (stop : Stop) → length (stopText stop) ≤ 53
 stop-most Running = omega arith

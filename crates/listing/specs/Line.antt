@@ -1,6 +1,7 @@
 -- The lines of a listing.
 use Prim.Native.Nat.{ℕ}
 use mathlib.Core.List.{List, _++_}
+use Rattle.datagram.specs.declared.Refusal.{Refusal}
 use Rattle.message.specs.declared.Reading.{Reading}
 use Rattle.message.specs.declared.Reading.the-variants.{Read, Refused}
 use Rattle.message.specs.declared.Message.{Message}
@@ -13,10 +14,13 @@ use Rattle.listing.specs.Text.{ascii, decimal, spacedHex, spacedNumbers}
 abbrev pub messageText : Message → List ℕ
 messageText m = ascii " " ++ (nameOf (kindOf m) ++ spacedNumbers (fieldsOf m))
 
+abbrev pub refusedText : Refusal → List ℕ
+refusedText r = ascii " refused " ++ decimal (r .number)
+
 -- what a datagram was read as, or what refused it
 abbrev pub contentOf : Reading → List ℕ
 contentOf (Read m) = messageText m
-contentOf (Refused r) = ascii " refused " ++ decimal (r .number)
+contentOf (Refused r) = refusedText r
 
 -- the decimal time, the bytes in hex, the content, and the line's end
 abbrev pub lineOf : ℕ → List ℕ → List ℕ

@@ -1,11 +1,8 @@
 // The listing: a recording as lines of text, block by block, in a lent buffer.
 pub mod block;
-mod kinds;
+mod content;
 
 use datagram::Refusal;
-use datagram::UNKNOWN_COMMAND;
-use message::Lookup;
-use message::Reading;
 use progress::Progress;
 use progress::Stop;
 ghost use mathlib.Core.Path.{_≡_};
@@ -18,9 +15,8 @@ ghost use lib.IntN.{pos};
 ghost use Rattle.number.specs.Word.{num};
 ghost use Rattle.listing.specs.Text.{Put, Placed, Kept, placed, digitPairs, pairOf, decimal, hexByte, spacedHex, spacedNumbers};
 ghost use Rattle.datagram.specs.Whole.{whole};
-ghost use Rattle.message.specs.Reading.{readAs};
 ghost use Rattle.listing.specs.Walk.{stopText, endText};
-ghost use Rattle.listing.specs.Line.{contentOf, lineOf, countLine, headerLine};
+ghost use Rattle.listing.specs.Line.{refusedText, lineOf, countLine, headerLine};
 
 // A block's outcome: the progress, the bytes of input that were listed, and the bytes of text put.
 pub struct Listed {
@@ -374,23 +370,9 @@ fn put_flags(out: &mut [u8], at: usize, a: bool, b: bool) -> usize
 // Puts what refused a datagram.
 fn put_refused(pairs: &[u8; 712], out: &mut [u8], at: usize, refusal: Refusal) -> usize
     requires { ⌜ (now pairs ≡ digitPairs) × (at + 29 ≤ length (now out)) ⌝ }
-    ensures { λ r. ⌜ Put (now (out .entry)) at (contentOf (Reading.Refused refusal)) (now (out .exit)) r ⌝ }
+    ensures { λ r. ⌜ Put (now (out .entry)) at (refusedText refusal) (now (out .exit)) r ⌝ }
 {
     put_labelled(pairs, out, at, b" refused ", refusal.number as u64)
-}
-
-// Puts what a datagram says by the row that its command was found at: its message, or what refused it.
-fn put_reading(pairs: &[u8; 712], out: &mut [u8], at: usize, found: Lookup, bytes: &[u8]) -> usize
-    requires { ⌜ (now pairs ≡ digitPairs) × (at + 160 ≤ length (now out)) ⌝ }
-    ensures { λ r. ⌜ Put (now (out .entry)) at (contentOf (readAs found (now (bytes .entry)))) (now (out .exit)) r ⌝ }
-{
-    match found {
-        Lookup::Unknown => put_refused(pairs, out, at, UNKNOWN_COMMAND),
-        Lookup::Found(row) => {
-            let kind = row.kind;
-            kinds::put_kind(pairs, out, at, kind, row.length, bytes)
-        }
-    }
 }
 
 // Puts the line of a whole datagram.
@@ -408,7 +390,7 @@ fn put_line(
 {
     let mut p = put_stamp(pairs, out, at, digits, count, time);
     p = put_hex(pairs, out, p, bytes);
-    p = put_reading(pairs, out, p, message::find(bytes[0]), bytes);
+    p = content::put_content(pairs, out, p, bytes);
     out[p] = 10;
     p + 1
 }

@@ -9,6 +9,7 @@ use Rattle.message.specs.declared.Kind.{Kind}
 use Rattle.message.specs.declared.Kind.the-variants as kind
 use Rattle.message.specs.declared.Message.{Message}
 use Rattle.message.specs.declared.Message.the-variants.{Depth, WindAngle, WindSpeed, Speed, Trip, Total, Logs, Speeds, Water, Lamp, Latitude, Longitude, Ground, Course, Time, Date, Key, Heading, Variation, Turn}
+use Rattle.message.specs.Table.{rowOf}
 
 abbrev flag : Bool → ℤ
 flag on = pos (num on)
@@ -35,27 +36,9 @@ kindOf (Heading halves reference locked) = kind.Heading
 kindOf (Variation east) = kind.Variation
 kindOf (Turn degrees right rudder) = kind.Turn
 
-unfoldable pub commandOf : Message → ℕ
-commandOf (Depth tenths anchor metric defective deep shallow) = 0x00
-commandOf (WindAngle halves) = 0x10
-commandOf (WindSpeed tenths metres) = 0x11
-commandOf (Speed tenths) = 0x20
-commandOf (Trip hundredths) = 0x21
-commandOf (Total tenths) = 0x22
-commandOf (Logs total trip) = 0x25
-commandOf (Speeds speed average valid stopped mph) = 0x26
-commandOf (Water tenths) = 0x27
-commandOf (Lamp level) = 0x30
-commandOf (Latitude degrees hundredths south) = 0x50
-commandOf (Longitude degrees hundredths east) = 0x51
-commandOf (Ground tenths) = 0x52
-commandOf (Course halves) = 0x53
-commandOf (Time hours minutes seconds) = 0x54
-commandOf (Date month day year) = 0x56
-commandOf (Key source code) = 0x86
-commandOf (Heading halves reference locked) = 0x89
-commandOf (Variation east) = 0x99
-commandOf (Turn degrees right rudder) = 0x9C
+-- the command of the message's row
+abbrev pub commandOf : Message → ℕ
+commandOf m = rowOf (kindOf m) .command
 
 unfoldable pub fieldsOf : Message → List ℤ
 fieldsOf (Depth tenths anchor metric defective deep shallow) =

@@ -11,30 +11,53 @@ use Rattle.message.specs.declared.Lookup.{Lookup}
 use Rattle.message.specs.declared.Lookup.the-variants.{Found, Unknown}
 
 abbrev row : ℕ → ℕ → Kind → Row
-row command length kind = record { command = command; length = length; kind = kind }
+row command size kind = record { command = command; length = size; kind = kind }
+
+-- each kind's command and length
+abbrev pub rowOf : Kind → Row
+rowOf Depth = row 0x00 5 Depth
+rowOf WindAngle = row 0x10 4 WindAngle
+rowOf WindSpeed = row 0x11 4 WindSpeed
+rowOf Speed = row 0x20 4 Speed
+rowOf Trip = row 0x21 5 Trip
+rowOf Total = row 0x22 5 Total
+rowOf Logs = row 0x25 7 Logs
+rowOf Speeds = row 0x26 7 Speeds
+rowOf Water = row 0x27 4 Water
+rowOf Lamp = row 0x30 3 Lamp
+rowOf Latitude = row 0x50 5 Latitude
+rowOf Longitude = row 0x51 5 Longitude
+rowOf Ground = row 0x52 4 Ground
+rowOf Course = row 0x53 3 Course
+rowOf Time = row 0x54 4 Time
+rowOf Date = row 0x56 4 Date
+rowOf Key = row 0x86 4 Key
+rowOf Heading = row 0x89 5 Heading
+rowOf Variation = row 0x99 3 Variation
+rowOf Turn = row 0x9C 4 Turn
 
 unfoldable pub kinds : List Row
 kinds =
-    row 0x00 5 Depth ∷
-    row 0x10 4 WindAngle ∷
-    row 0x11 4 WindSpeed ∷
-    row 0x20 4 Speed ∷
-    row 0x21 5 Trip ∷
-    row 0x22 5 Total ∷
-    row 0x25 7 Logs ∷
-    row 0x26 7 Speeds ∷
-    row 0x27 4 Water ∷
-    row 0x30 3 Lamp ∷
-    row 0x50 5 Latitude ∷
-    row 0x51 5 Longitude ∷
-    row 0x52 4 Ground ∷
-    row 0x53 3 Course ∷
-    row 0x54 4 Time ∷
-    row 0x56 4 Date ∷
-    row 0x86 4 Key ∷
-    row 0x89 5 Heading ∷
-    row 0x99 3 Variation ∷
-    row 0x9C 4 Turn ∷ []
+    rowOf Depth ∷
+    rowOf WindAngle ∷
+    rowOf WindSpeed ∷
+    rowOf Speed ∷
+    rowOf Trip ∷
+    rowOf Total ∷
+    rowOf Logs ∷
+    rowOf Speeds ∷
+    rowOf Water ∷
+    rowOf Lamp ∷
+    rowOf Latitude ∷
+    rowOf Longitude ∷
+    rowOf Ground ∷
+    rowOf Course ∷
+    rowOf Time ∷
+    rowOf Date ∷
+    rowOf Key ∷
+    rowOf Heading ∷
+    rowOf Variation ∷
+    rowOf Turn ∷ []
 
 -- the first row with this command
 abbrev pub rowIn : List Row → ℕ → Lookup

@@ -3,7 +3,8 @@ pub mod range;
 
 use datagram::Refusal;
 ghost use mathlib.Core.Path.{_≡_};
-ghost use Rattle.message.specs.Table.{kinds, findOf, rowAt};
+ghost use Rattle.message.specs.Table.{rowOf, kinds, findOf, rowAt};
+ghost use Rattle.message.specs.Fields.{kindOf};
 
 // A kind of message, by its name in the table of document 01.
 pub enum Kind {
@@ -142,108 +143,149 @@ pub enum Lookup {
     Unknown,
 }
 
+// The rows of the table, one a kind.
+const DEPTH: Row = Row {
+    command: 0x00,
+    length: 5,
+    kind: Kind::Depth,
+};
+
+const WIND_ANGLE: Row = Row {
+    command: 0x10,
+    length: 4,
+    kind: Kind::WindAngle,
+};
+
+const WIND_SPEED: Row = Row {
+    command: 0x11,
+    length: 4,
+    kind: Kind::WindSpeed,
+};
+
+const SPEED: Row = Row {
+    command: 0x20,
+    length: 4,
+    kind: Kind::Speed,
+};
+
+const TRIP: Row = Row {
+    command: 0x21,
+    length: 5,
+    kind: Kind::Trip,
+};
+
+const TOTAL: Row = Row {
+    command: 0x22,
+    length: 5,
+    kind: Kind::Total,
+};
+
+const LOGS: Row = Row {
+    command: 0x25,
+    length: 7,
+    kind: Kind::Logs,
+};
+
+const SPEEDS: Row = Row {
+    command: 0x26,
+    length: 7,
+    kind: Kind::Speeds,
+};
+
+const WATER: Row = Row {
+    command: 0x27,
+    length: 4,
+    kind: Kind::Water,
+};
+
+const LAMP: Row = Row {
+    command: 0x30,
+    length: 3,
+    kind: Kind::Lamp,
+};
+
+const LATITUDE: Row = Row {
+    command: 0x50,
+    length: 5,
+    kind: Kind::Latitude,
+};
+
+const LONGITUDE: Row = Row {
+    command: 0x51,
+    length: 5,
+    kind: Kind::Longitude,
+};
+
+const GROUND: Row = Row {
+    command: 0x52,
+    length: 4,
+    kind: Kind::Ground,
+};
+
+const COURSE: Row = Row {
+    command: 0x53,
+    length: 3,
+    kind: Kind::Course,
+};
+
+const TIME: Row = Row {
+    command: 0x54,
+    length: 4,
+    kind: Kind::Time,
+};
+
+const DATE: Row = Row {
+    command: 0x56,
+    length: 4,
+    kind: Kind::Date,
+};
+
+const KEY: Row = Row {
+    command: 0x86,
+    length: 4,
+    kind: Kind::Key,
+};
+
+const HEADING: Row = Row {
+    command: 0x89,
+    length: 5,
+    kind: Kind::Heading,
+};
+
+const VARIATION: Row = Row {
+    command: 0x99,
+    length: 3,
+    kind: Kind::Variation,
+};
+
+const TURN: Row = Row {
+    command: 0x9C,
+    length: 4,
+    kind: Kind::Turn,
+};
+
 // The one table of kinds, in the order of their commands.
 pub const KINDS: [Row; 20] = [
-    Row {
-        command: 0x00,
-        length: 5,
-        kind: Kind::Depth,
-    },
-    Row {
-        command: 0x10,
-        length: 4,
-        kind: Kind::WindAngle,
-    },
-    Row {
-        command: 0x11,
-        length: 4,
-        kind: Kind::WindSpeed,
-    },
-    Row {
-        command: 0x20,
-        length: 4,
-        kind: Kind::Speed,
-    },
-    Row {
-        command: 0x21,
-        length: 5,
-        kind: Kind::Trip,
-    },
-    Row {
-        command: 0x22,
-        length: 5,
-        kind: Kind::Total,
-    },
-    Row {
-        command: 0x25,
-        length: 7,
-        kind: Kind::Logs,
-    },
-    Row {
-        command: 0x26,
-        length: 7,
-        kind: Kind::Speeds,
-    },
-    Row {
-        command: 0x27,
-        length: 4,
-        kind: Kind::Water,
-    },
-    Row {
-        command: 0x30,
-        length: 3,
-        kind: Kind::Lamp,
-    },
-    Row {
-        command: 0x50,
-        length: 5,
-        kind: Kind::Latitude,
-    },
-    Row {
-        command: 0x51,
-        length: 5,
-        kind: Kind::Longitude,
-    },
-    Row {
-        command: 0x52,
-        length: 4,
-        kind: Kind::Ground,
-    },
-    Row {
-        command: 0x53,
-        length: 3,
-        kind: Kind::Course,
-    },
-    Row {
-        command: 0x54,
-        length: 4,
-        kind: Kind::Time,
-    },
-    Row {
-        command: 0x56,
-        length: 4,
-        kind: Kind::Date,
-    },
-    Row {
-        command: 0x86,
-        length: 4,
-        kind: Kind::Key,
-    },
-    Row {
-        command: 0x89,
-        length: 5,
-        kind: Kind::Heading,
-    },
-    Row {
-        command: 0x99,
-        length: 3,
-        kind: Kind::Variation,
-    },
-    Row {
-        command: 0x9C,
-        length: 4,
-        kind: Kind::Turn,
-    },
+    DEPTH,
+    WIND_ANGLE,
+    WIND_SPEED,
+    SPEED,
+    TRIP,
+    TOTAL,
+    LOGS,
+    SPEEDS,
+    WATER,
+    LAMP,
+    LATITUDE,
+    LONGITUDE,
+    GROUND,
+    COURSE,
+    TIME,
+    DATE,
+    KEY,
+    HEADING,
+    VARIATION,
+    TURN,
 ];
 
 // The table as an array.
@@ -305,4 +347,60 @@ pub fn find(command: u8) -> Lookup
     ensures { λ r. ⌜ r ≡ findOf command ⌝ }
 {
     row_at(place_of(command))
+}
+
+// The table's row of a kind.
+pub fn row_of(kind: Kind) -> Row
+    ensures { λ r. ⌜ r ≡ rowOf kind ⌝ }
+{
+    match kind {
+        Kind::Depth => DEPTH,
+        Kind::WindAngle => WIND_ANGLE,
+        Kind::WindSpeed => WIND_SPEED,
+        Kind::Speed => SPEED,
+        Kind::Trip => TRIP,
+        Kind::Total => TOTAL,
+        Kind::Logs => LOGS,
+        Kind::Speeds => SPEEDS,
+        Kind::Water => WATER,
+        Kind::Lamp => LAMP,
+        Kind::Latitude => LATITUDE,
+        Kind::Longitude => LONGITUDE,
+        Kind::Ground => GROUND,
+        Kind::Course => COURSE,
+        Kind::Time => TIME,
+        Kind::Date => DATE,
+        Kind::Key => KEY,
+        Kind::Heading => HEADING,
+        Kind::Variation => VARIATION,
+        Kind::Turn => TURN,
+    }
+}
+
+// The kind of a message.
+pub fn kind_of(m: Message) -> Kind
+    ensures { λ r. ⌜ r ≡ kindOf m ⌝ }
+{
+    match m {
+        Message::Depth { .. } => Kind::Depth,
+        Message::WindAngle { .. } => Kind::WindAngle,
+        Message::WindSpeed { .. } => Kind::WindSpeed,
+        Message::Speed { .. } => Kind::Speed,
+        Message::Trip { .. } => Kind::Trip,
+        Message::Total { .. } => Kind::Total,
+        Message::Logs { .. } => Kind::Logs,
+        Message::Speeds { .. } => Kind::Speeds,
+        Message::Water { .. } => Kind::Water,
+        Message::Lamp { .. } => Kind::Lamp,
+        Message::Latitude { .. } => Kind::Latitude,
+        Message::Longitude { .. } => Kind::Longitude,
+        Message::Ground { .. } => Kind::Ground,
+        Message::Course { .. } => Kind::Course,
+        Message::Time { .. } => Kind::Time,
+        Message::Date { .. } => Kind::Date,
+        Message::Key { .. } => Kind::Key,
+        Message::Heading { .. } => Kind::Heading,
+        Message::Variation { .. } => Kind::Variation,
+        Message::Turn { .. } => Kind::Turn,
+    }
 }

@@ -10,6 +10,7 @@ use message::Reading;
 ghost use mathlib.Core.Path.{_≡_};
 ghost use lib.ListN.{getD};
 ghost use Rattle.message.specs.Reading.{readOf, readKind, readAs, readSized, judged};
+ghost use Rattle.reader.specs.OfKind.{readOfKind};
 
 // Reads any bytes: the message, or refusal 3, 4, 5, 6 or 7, in that order.
 pub fn read(bytes: &[u8]) -> Reading
@@ -42,11 +43,26 @@ fn read_as(found: Lookup, bytes: &[u8]) -> Reading
     }
 }
 
-// Reads a datagram of a kind that has a length: the message, or refusal 5, 6 or 7.
-pub fn read_sized(kind: Kind, length: u8, bytes: &[u8]) -> Reading
-    ensures { λ r. ⌜ r ≡ readSized kind length (now (bytes .entry)) ⌝ }
+// Reads any bytes as a datagram of this kind: the message, or refusal 3, 4, 5, 6 or 7, in that order; 4 where the command is
+// not this kind's. A caller that goes by the kind has the compiler read that kind alone.
+pub fn read_of(kind: Kind, bytes: &[u8]) -> Reading
+    ensures { λ r. ⌜ r ≡ readOfKind kind (now (bytes .entry)) ⌝ }
 {
-    if bytes.len() == length as usize {
+    if !datagram::is_whole(bytes) {
+        return Reading::Refused(NOT_WHOLE);
+    }
+    let row = message::row_of(kind);
+    if byte_at(bytes, 0) != row.command {
+        return Reading::Refused(UNKNOWN_COMMAND);
+    }
+    read_sized(kind, row.length, bytes)
+}
+
+// Reads the bytes of a datagram of a kind that has this length: the message, or refusal 5, 6 or 7.
+fn read_sized(kind: Kind, size: u8, bytes: &[u8]) -> Reading
+    ensures { λ r. ⌜ r ≡ readSized kind size (now (bytes .entry)) ⌝ }
+{
+    if bytes.len() == size as usize {
         read_kind(kind, bytes)
     } else {
         Reading::Refused(WRONG_LENGTH)

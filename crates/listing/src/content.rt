@@ -1,0 +1,207 @@
+// What a datagram says, as text: the name and the fields of its message, or what refused it.
+use crate::put_bytes;
+use crate::put_flagged;
+use crate::put_flags;
+use crate::put_number;
+use crate::put_refused;
+use crate::put_signed;
+use crate::put_three;
+use crate::put_two;
+use crate::put_two_flagged;
+use datagram::NOT_WHOLE;
+use datagram::UNKNOWN_COMMAND;
+use message::Kind;
+use message::Lookup;
+use message::Message;
+use message::Reading;
+ghost use mathlib.Core.Path.{_≡_};
+ghost use Prim.Native.Nat.{_+_, _≤_};
+ghost use lib.ListN.{length};
+ghost use Rattle.message.specs.Reading.{readOf};
+ghost use Rattle.reader.specs.OfKind.{readOfKind};
+ghost use Rattle.listing.specs.Text.{Put, digitPairs};
+ghost use Rattle.listing.specs.Line.{messageText, contentOf};
+
+// Puts what any bytes say.
+pub fn put_content(pairs: &[u8; 712], out: &mut [u8], at: usize, bytes: &[u8]) -> usize
+    requires { ⌜ (now pairs ≡ digitPairs) × (at + 160 ≤ length (now out)) ⌝ }
+    ensures { λ r. ⌜ Put (now (out .entry)) at (contentOf (readOf (now (bytes .entry)))) (now (out .exit)) r ⌝ }
+{
+    if !datagram::is_whole(bytes) {
+        return put_refused(pairs, out, at, NOT_WHOLE);
+    }
+    match message::find(bytes[0]) {
+        Lookup::Unknown => put_refused(pairs, out, at, UNKNOWN_COMMAND),
+        Lookup::Found(row) => {
+            let kind = row.kind;
+            put_kind(pairs, out, at, kind, bytes)
+        }
+    }
+}
+
+// Puts what bytes say as a datagram of this kind. One jump goes by the kind; behind it the compiler knows the kind, and the
+// fields stay in registers from the bytes to the text.
+fn put_kind(pairs: &[u8; 712], out: &mut [u8], at: usize, kind: Kind, bytes: &[u8]) -> usize
+    requires { ⌜ (now pairs ≡ digitPairs) × (at + 160 ≤ length (now out)) ⌝ }
+    ensures { λ r. ⌜ Put (now (out .entry)) at (contentOf (readOfKind kind (now (bytes .entry)))) (now (out .exit)) r ⌝ }
+{
+    match kind {
+        Kind::Depth => put_reading(pairs, out, at, reader::read_of(Kind::Depth, bytes)),
+        Kind::WindAngle => put_reading(pairs, out, at, reader::read_of(Kind::WindAngle, bytes)),
+        Kind::WindSpeed => put_reading(pairs, out, at, reader::read_of(Kind::WindSpeed, bytes)),
+        Kind::Speed => put_reading(pairs, out, at, reader::read_of(Kind::Speed, bytes)),
+        Kind::Trip => put_reading(pairs, out, at, reader::read_of(Kind::Trip, bytes)),
+        Kind::Total => put_reading(pairs, out, at, reader::read_of(Kind::Total, bytes)),
+        Kind::Logs => put_reading(pairs, out, at, reader::read_of(Kind::Logs, bytes)),
+        Kind::Speeds => put_reading(pairs, out, at, reader::read_of(Kind::Speeds, bytes)),
+        Kind::Water => put_reading(pairs, out, at, reader::read_of(Kind::Water, bytes)),
+        Kind::Lamp => put_reading(pairs, out, at, reader::read_of(Kind::Lamp, bytes)),
+        Kind::Latitude => put_reading(pairs, out, at, reader::read_of(Kind::Latitude, bytes)),
+        Kind::Longitude => put_reading(pairs, out, at, reader::read_of(Kind::Longitude, bytes)),
+        Kind::Ground => put_reading(pairs, out, at, reader::read_of(Kind::Ground, bytes)),
+        Kind::Course => put_reading(pairs, out, at, reader::read_of(Kind::Course, bytes)),
+        Kind::Time => put_reading(pairs, out, at, reader::read_of(Kind::Time, bytes)),
+        Kind::Date => put_reading(pairs, out, at, reader::read_of(Kind::Date, bytes)),
+        Kind::Key => put_reading(pairs, out, at, reader::read_of(Kind::Key, bytes)),
+        Kind::Heading => put_reading(pairs, out, at, reader::read_of(Kind::Heading, bytes)),
+        Kind::Variation => put_reading(pairs, out, at, reader::read_of(Kind::Variation, bytes)),
+        Kind::Turn => put_reading(pairs, out, at, reader::read_of(Kind::Turn, bytes)),
+    }
+}
+
+// Puts a message, or what refused a datagram.
+fn put_reading(pairs: &[u8; 712], out: &mut [u8], at: usize, reading: Reading) -> usize
+    requires { ⌜ (now pairs ≡ digitPairs) × (at + 160 ≤ length (now out)) ⌝ }
+    ensures { λ r. ⌜ Put (now (out .entry)) at (contentOf reading) (now (out .exit)) r ⌝ }
+{
+    match reading {
+        Reading::Read(m) => put_message(pairs, out, at, m),
+        Reading::Refused(r) => put_refused(pairs, out, at, r),
+    }
+}
+
+// Puts the name of a message's kind, and its fields in table order.
+fn put_message(pairs: &[u8; 712], out: &mut [u8], at: usize, m: Message) -> usize
+    requires { ⌜ (now pairs ≡ digitPairs) × (at + 160 ≤ length (now out)) ⌝ }
+    ensures { λ r. ⌜ Put (now (out .entry)) at (messageText m) (now (out .exit)) r ⌝ }
+{
+    match m {
+        Message::Depth {
+            tenths,
+            anchor,
+            metric,
+            defective,
+            deep,
+            shallow,
+        } => {
+            let mut p = put_bytes(out, at, b" depth");
+            p = put_flagged(pairs, out, p, tenths, anchor);
+            p = put_flags(out, p, metric, defective);
+            put_flags(out, p, deep, shallow)
+        }
+        Message::WindAngle { halves } => {
+            let p = put_bytes(out, at, b" windangle");
+            put_number(pairs, out, p, halves)
+        }
+        Message::WindSpeed { tenths, metres } => {
+            let p = put_bytes(out, at, b" windspeed");
+            put_flagged(pairs, out, p, tenths, metres)
+        }
+        Message::Speed { tenths } => {
+            let p = put_bytes(out, at, b" speed");
+            put_number(pairs, out, p, tenths)
+        }
+        Message::Trip { hundredths } => {
+            let p = put_bytes(out, at, b" trip");
+            put_number(pairs, out, p, hundredths)
+        }
+        Message::Total { tenths } => {
+            let p = put_bytes(out, at, b" total");
+            put_number(pairs, out, p, tenths)
+        }
+        Message::Logs { total, trip } => {
+            let p = put_bytes(out, at, b" logs");
+            put_two(pairs, out, p, total, trip)
+        }
+        Message::Speeds {
+            speed,
+            average,
+            valid,
+            stopped,
+            mph,
+        } => {
+            let mut p = put_bytes(out, at, b" speeds");
+            p = put_two_flagged(pairs, out, p, speed, average, valid);
+            put_flags(out, p, stopped, mph)
+        }
+        Message::Water { tenths } => {
+            let p = put_bytes(out, at, b" water");
+            put_signed(pairs, out, p, tenths)
+        }
+        Message::Lamp { level } => {
+            let p = put_bytes(out, at, b" lamp");
+            put_number(pairs, out, p, level)
+        }
+        Message::Latitude {
+            degrees,
+            hundredths,
+            south,
+        } => {
+            let p = put_bytes(out, at, b" lat");
+            put_two_flagged(pairs, out, p, degrees, hundredths, south)
+        }
+        Message::Longitude {
+            degrees,
+            hundredths,
+            east,
+        } => {
+            let p = put_bytes(out, at, b" lon");
+            put_two_flagged(pairs, out, p, degrees, hundredths, east)
+        }
+        Message::Ground { tenths } => {
+            let p = put_bytes(out, at, b" ground");
+            put_number(pairs, out, p, tenths)
+        }
+        Message::Course { halves } => {
+            let p = put_bytes(out, at, b" course");
+            put_number(pairs, out, p, halves)
+        }
+        Message::Time {
+            hours,
+            minutes,
+            seconds,
+        } => {
+            let p = put_bytes(out, at, b" time");
+            put_three(pairs, out, p, hours, minutes, seconds)
+        }
+        Message::Date { month, day, year } => {
+            let p = put_bytes(out, at, b" date");
+            put_three(pairs, out, p, month, day, year)
+        }
+        Message::Key { source, code } => {
+            let p = put_bytes(out, at, b" key");
+            put_two(pairs, out, p, source, code)
+        }
+        Message::Heading {
+            halves,
+            reference,
+            locked,
+        } => {
+            let p = put_bytes(out, at, b" heading");
+            put_two_flagged(pairs, out, p, halves, reference, locked)
+        }
+        Message::Variation { east } => {
+            let p = put_bytes(out, at, b" variation");
+            put_signed(pairs, out, p, east)
+        }
+        Message::Turn {
+            degrees,
+            right,
+            rudder,
+        } => {
+            let mut p = put_bytes(out, at, b" turn");
+            p = put_flagged(pairs, out, p, degrees, right);
+            put_signed(pairs, out, p, rudder)
+        }
+    }
+}
