@@ -1,13 +1,9 @@
-pub mod Ahead
 pub mod Decimal
-pub mod Gathering
-pub mod Handed
 pub mod Lines
 pub mod Pairs
 pub mod Put
 pub mod Short
 pub mod Sign
 pub mod Spaced
-pub mod Takes
 pub mod Times
 pub mod Walks

@@ -2,4 +2,3 @@ pub mod Text
 pub mod Names
 pub mod Line
 pub mod Walk
-pub mod Taken

@@ -2,9 +2,8 @@
 use Prim.Native.Nat.{ℕ, _+_, _%_, _^_}
 use mathlib.Core.Bool.{Bool, true, false}
 use mathlib.Core.List.{[]}
-use Rattle.listener.specs.declared.Answer.{Answer}
-use Rattle.listener.specs.declared.Answer.the-variants as answer
 use Rattle.listener.specs.declared.Heard.{Heard}
+use Rattle.listener.specs.Answers.{isHanded, isCancelled, isStray}
 use Rattle.listener.specs.State.{holding}
 use Rattle.recording.specs.declared.Record.{Record}
 use Rattle.recording.specs.declared.Record.the-variants as record-case
@@ -20,30 +19,6 @@ begun = record { listener = holding []; handed = 0; cancelled = 0; stray = 0 }
 abbrev pub counted : Bool → ℕ → ℕ
 counted true n = (n + 1) % 2 ^ 64
 counted false n = n
-
-abbrev pub isHanded : Answer → Bool
-isHanded answer.Opened = false
-isHanded answer.Cancelled = false
-isHanded answer.Stray = false
-isHanded answer.Kept = false
-isHanded answer.HandedOut = true
-isHanded (answer.Refused r) = false
-
-abbrev pub isCancelled : Answer → Bool
-isCancelled answer.Opened = false
-isCancelled answer.Cancelled = true
-isCancelled answer.Stray = false
-isCancelled answer.Kept = false
-isCancelled answer.HandedOut = false
-isCancelled (answer.Refused r) = false
-
-abbrev pub isStray : Answer → Bool
-isStray answer.Opened = false
-isStray answer.Cancelled = false
-isStray answer.Stray = true
-isStray answer.Kept = false
-isStray answer.HandedOut = false
-isStray (answer.Refused r) = false
 
 -- the progress after an answer
 abbrev pub advanced : Progress → Heard → Progress

@@ -14,11 +14,14 @@ use Rattle.listener.specs.State.{holding}
 use Rattle.listener.proofs.Sound.{empty-is}
 use Rattle.progress.specs.declared.Stop.the-variants.{Running}
 use Rattle.listing.specs.Text.{Kept, decimal}
-use Rattle.listing.specs.Taken.{entry}
-use Rattle.listing.specs.Walk.{walkFrom}
+use Rattle.framing.specs.Taken.{entry}
+use Rattle.framing.specs.Walk.{walkFrom}
+use Rattle.listing.specs.Line.{lineOf}
 use Rattle.listing.proofs.Put.{put-length}
-use Rattle.listing.proofs.Takes.{Stepped, stepped-gave, stepped-took, entry-short}
-use Rattle.listing.proofs.Walks.{Going, started, went, ended, walk-full}
+use Rattle.framing.proofs.Takes.{Stepped, stepped-gave, stepped-took}
+use Rattle.framing.proofs.Walks.{walk-full}
+use Rattle.listing.proofs.Short.{entry-short}
+use Rattle.listing.proofs.Walks.{Going, started, went, ended}
 use Rattle.listing.proofs.block.list_block.Statement.{statement}
 use Rattle.listing.proofs.block.list_block.Tie as tie
 
@@ -37,15 +40,15 @@ stepped : (c : tie.Joined2 Inv-loop μ-loop)
     → let a = c .before .before .before .before .before .before .before .before .before .before .before .args in
     let v = c .before .before .before .before .before .before .loop in
     let j = c .if2 in
-    Stepped (now (a .input)) (v .at) (v .left) (v .p) (length (now (a .out)) - v .place) (j .bytes) (j .p) (j .idle) (j .used) (j .count) (j .time)
+    Stepped lineOf (now (a .input)) (v .at) (v .left) (v .p) (length (now (a .out)) - v .place) (j .bytes) (j .p) (j .idle) (j .used) (j .count) (j .time)
 stepped c =
     let v = c .before .before .before .before .before .before .loop in
     let g = c .before .before .gather in
-    let long : length (g .last .1 .1 .1 .1 .0) ≡ 18 = search needs in
+    let long : length (g .last .1 .1 .1 .0) ≡ 18 = search needs in
     ⊎-elim
     (λ w.
     let gave = g .ensures (w .0 .taken) in
-    stepped-gave (roomy c) (g .result) (gave .1) long (w .0 .taken) (v .inv .1 (gave .0)) (w .3) (w .4 ∙ w .1 .ensures) (w .6) (w .7) (w .8 ∙ w .2 .ensures))
+    stepped-gave (roomy c) (g .result) (gave .1) (v .inv .0 .all) long (w .0 .taken) (v .inv .1 (gave .0)) (w .2) (w .3 ∙ w .1 .ensures) (w .5) (w .6) (w .7))
     (λ w.
     stepped-took (roomy c) (w .1 .result) (w .1 .ensures) (omega (arith, w .3 .left)) (c .before .before .before .before .before .loop-test .taken) (w .6) (w .7) (w .8) (w .9) (w .10) (w .11))
     (c .if2 .came)
@@ -77,34 +80,16 @@ returns c =
     let v = c .before .before .before .loop in
     let g = v .inv .0 in
     let a = c .before .before .before .before .before .before .before .before .args in
-    ended g Running _ (walk-full (now (a .input)) (v .at) (v .p) (v .left) (length (now (a .out)) - v .place) (c .before .before .loop-test .taken) (omega (arith, c .before .if1 .taken, put-length (g .put)))) (c .listed .ensures)
+    ended g Running _ (walk-full lineOf (now (a .input)) (v .at) (v .p) (v .left) (length (now (a .out)) - v .place) (c .before .before .loop-test .taken) (omega (arith, c .before .if1 .taken, put-length (g .put)))) (c .listed .ensures)
 
 slice-aggregate-gather : tie.Need-slice-aggregate-gather Inv-loop μ-loop
 slice-aggregate-gather c = sym (c .before .before .before .loop .inv .2)
 
 gather-requires : tie.Need-gather-requires Inv-loop μ-loop
-gather-requires c κs = (c .before .before .before .loop .inv .0 .within, c .before .before .before .loop .inv .2)
+gather-requires c κs = search needs
 
 tally-requires : tie.Need-tally-requires Inv-loop μ-loop
 tally-requires c κs = search needs
-
-sub-time-at : tie.Need-sub-time-at Inv-loop μ-loop
-sub-time-at c = search needs
-
-mul-time-at : tie.Need-mul-time-at Inv-loop μ-loop
-mul-time-at c =
-    let gave = c .before .before .before .gather .ensures (c .before .if2 .taken) in
-    omega (arith, gave .1 .fits, c .before .if2 .taken, c .before .before .before .before .before .before .before .loop .inv .0 .within, c .before .before .before .before .before .before .before .before .before .before .before .before .good .1 .0 .0)
-
-add-time-at : tie.Need-add-time-at Inv-loop μ-loop
-add-time-at c =
-    let gave = c .before .before .before .gather .ensures (c .before .if2 .taken) in
-    omega (arith, gave .1 .fits, c .before .if2 .taken, c .before .before .before .before .before .before .before .loop .inv .0 .within, c .before .before .before .before .before .before .before .before .before .before .before .before .good .1 .0 .0)
-
-time-at-requires : tie.Need-time-at-requires Inv-loop μ-loop
-time-at-requires c κs =
-    let gave = c .before .before .before .gather .ensures (c .before .if2 .taken) in
-    omega (arith, gave .1 .fits, c .before .if2 .taken, c .before .before .before .before .before .before .before .loop .inv .0 .within, c .before .before .before .before .before .before .before .before .before .before .before .before .good .1 .0 .0)
 
 hear-record-requires : tie.Need-hear-record-requires Inv-loop μ-loop
 hear-record-requires c κs = search needs
@@ -121,7 +106,7 @@ returns-2 c =
     let v = c .before .before .before .before .before .before .before .before .before .before .loop in
     let g = v .inv .0 in
     let none = c .before .before .before .hear-record .ensures .ends (c .before .if3 .taken) in
-    ended g (c .before .before .before .hear-record .result .stop) _ (none (v .left) (length (now (a .out)) - v .place) (c .before .before .before .before .before .before .before .before .before .loop-test .taken) (omega (arith, c .before .before .before .before .before .before .before .before .if1 .left, put-length (g .put)))) (c .listed2 .ensures)
+    ended g (c .before .before .before .hear-record .result .stop) _ (none lineOf (v .left) (length (now (a .out)) - v .place) (c .before .before .before .before .before .before .before .before .before .loop-test .taken) (omega (arith, c .before .before .before .before .before .before .before .before .if1 .left, put-length (g .put)))) (c .listed2 .ensures)
 
 slice-aggregate-put-entry : tie.Need-slice-aggregate-put-entry Inv-loop μ-loop
 slice-aggregate-put-entry c = search needs
@@ -146,12 +131,12 @@ put-entry-requires c κs =
 mul-at : tie.Need-mul-at Inv-loop μ-loop
 mul-at c =
     let st = stepped (c .before .before .before .before .before .before .before .before .before .before .before .before) in
-    omega (arith, st .fits, c .before .before .before .before .before .before .before .before .before .before .before .before .before .before .before .before .before .before .loop .inv .0 .within, c .before .before .before .before .before .before .before .before .before .before .before .before .before .before .before .before .before .before .before .before .before .before .before .good .1 .0 .0)
+    omega (arith, st .fits, c .before .before .before .before .before .before .before .before .before .before .before .before .before .before .before .before .before .before .loop .inv .0 .within, c .before .before .before .before .before .before .before .before .before .before .before .before .before .before .before .before .before .before .loop .inv .0 .all, c .before .before .before .before .before .before .before .before .before .before .before .before .before .before .before .before .before .before .before .before .before .before .before .good .1 .0 .0)
 
 add-at : tie.Need-add-at Inv-loop μ-loop
 add-at c =
     let st = stepped (c .before .before .before .before .before .before .before .before .before .before .before .before) in
-    omega (arith, st .fits, c .before .before .before .before .before .before .before .before .before .before .before .before .before .before .before .before .before .before .loop .inv .0 .within, c .before .before .before .before .before .before .before .before .before .before .before .before .before .before .before .before .before .before .before .before .before .before .before .good .1 .0 .0)
+    omega (arith, st .fits, c .before .before .before .before .before .before .before .before .before .before .before .before .before .before .before .before .before .before .loop .inv .0 .within, c .before .before .before .before .before .before .before .before .before .before .before .before .before .before .before .before .before .before .loop .inv .0 .all, c .before .before .before .before .before .before .before .before .before .before .before .before .before .before .before .before .before .before .before .before .before .before .before .good .1 .0 .0)
 
 sub-left : tie.Need-sub-left Inv-loop μ-loop
 sub-left c = stepped (c .before .before .before .before .before .before .before .before .before .before .before .before) .fits
@@ -166,7 +151,7 @@ loop-again c =
     let g = c .before .before .before .before .before .before .before .before .before .before .before .before .before .before .before .before .before .before .loop .inv .0 in
     let e = c .before .before .before .before .before .put-entry .ensures in
     let size : length (take (j .if2 .count) (j .if2 .bytes)) ≡ j .if2 .count = length-take-le (j .if2 .count) (j .if2 .bytes) (omega (arith, st .most, st .long)) in
-    let text = entry (j .if2 .time) (take (j .if2 .count) (j .if2 .bytes)) in
+    let text = entry lineOf (j .if2 .time) (take (j .if2 .count) (j .if2 .bytes)) in
     let short : length text ≤ 512 = entry-short (j .if2 .time) (take (j .if2 .count) (j .if2 .bytes)) (omega (arith, size, st .most)) in
     (went g (j .if2 .used) text (j .if2 .p) _ _ (st .goes) (st .fits) short (roomy j) (rw sub-zero at (e .0)), st .rests, st .long, e .1)
 
@@ -199,10 +184,6 @@ list-block-spec =
     slice-aggregate-gather
     gather-requires
     tally-requires
-    sub-time-at
-    mul-time-at
-    add-time-at
-    time-at-requires
     hear-record-requires
     listed-requires-2
     same-length-2

@@ -22,11 +22,10 @@ use Rattle.listener.proofs.Held.{Unfinished, on-command, on-other}
 use Rattle.recording.specs.declared.Record.the-variants as record-case
 use Rattle.recording.specs.Record.{recordOf, timeAt, byteOf}
 use Rattle.progress.specs.declared.Progress.{Progress}
-use Rattle.listing.specs.Line.{lineOf}
 use Rattle.progress.specs.Progress.{advanced, counted, tallied}
-use Rattle.listing.specs.Walk.{Walk, behind, walkFrom, entryOf}
-use Rattle.listing.proofs.Gathering.{Gathering}
-use Rattle.listing.proofs.Walks.{walk-heard}
+use Rattle.framing.specs.Walk.{Line, Walk, behind, walkFrom, entryOf}
+use Rattle.framing.proofs.Gathering.{Gathering}
+use Rattle.framing.proofs.Walks.{walk-heard}
 
 -- with something held, a byte is added to it, and a command symbol cancels it
 other-reaches : (xs : List ℕ) (b : ℕ) → 0 < length xs → otherSymbol xs b ≡ reaching (xs ++ (b ∷ []))
@@ -38,22 +37,22 @@ command-cancels [] b h = absurd (omega arith)
 command-cancels (x ∷ xs) b h = refl
 
 -- the walk goes on behind the line of what was heard, if it was handed out
-abbrev goes-on : List ℕ → ℕ → ℕ → ℕ → ℕ → Progress → Heard → Walk
-goes-on s room more next time q h = behind (entryOf time h) (walkFrom more s next (advanced q h) (room - length (entryOf time h)))
+abbrev goes-on : Line → List ℕ → ℕ → ℕ → ℕ → ℕ → Progress → Heard → Walk
+goes-on line s room more next time q h = behind (entryOf line time h) (walkFrom line more s next (advanced q h) (room - length (entryOf line time h)))
 
-module _ (s : List ℕ) (at left room : ℕ) (some : 0 < left) (roomy : 512 ≤ room) (time : ℕ) where
+module _ (line : Line) (s : List ℕ) (at left room : ℕ) (some : 0 < left) (roomy : 512 ≤ room) (time : ℕ) where
   -- a record that hands nothing out
   quietly : (p : Progress) (symbol : ℕ) (h : Heard) → recordOf s at ≡ record-case.Heard time symbol
-      → hearOf (p .listener) symbol ≡ h → entryOf time h ≡ []
-      → walkFrom left s at p room ≡ walkFrom (left - 1) s (at + 8) (advanced p h) room
+      → hearOf (p .listener) symbol ≡ h → entryOf line time h ≡ []
+      → walkFrom line left s at p room ≡ walkFrom line (left - 1) s (at + 8) (advanced p h) room
   quietly p symbol h heard e none =
-      walk-heard s at p left room some time symbol roomy heard
-      ∙ ap (goes-on s room (left - 1) (at + 8) time p) e
+      walk-heard line s at p left room some time symbol roomy heard
+      ∙ ap (goes-on line s room (left - 1) (at + 8) time p) e
       ∙ rw (none, sub-zero)
 
   -- a stray
   pub walk-stray : (p : Progress) (b : ℕ) → b < 256 → recordOf s at ≡ record-case.Heard time b → p .listener ≡ holding []
-      → walkFrom left s at p room ≡ walkFrom (left - 1) s (at + 8) (tallied p false false true) room
+      → walkFrom line left s at p room ≡ walkFrom line (left - 1) s (at + 8) (tallied p false false true) room
   walk-stray p b low heard idle =
       quietly p b (quiet Stray (holding [])) heard (ap (λ (l : Listener). hearOf l b) idle ∙ on-other [] b (omega arith) low) refl
       ∙ rw idle
@@ -61,8 +60,8 @@ module _ (s : List ℕ) (at left room : ℕ) (some : 0 < left) (roomy : 512 ≤ 
   -- a command symbol where something is held: as where nothing is, with one datagram more cancelled
   walk-over : (p : Progress) (xs : List ℕ) (b : ℕ) → b < 256 → recordOf s at ≡ record-case.Heard time (256 + b)
       → p .listener ≡ holding xs → 0 < length xs → Unfinished xs
-      → walkFrom left s at p room
-      ≡ walkFrom left s at (record { listener = holding []; handed = p .handed; cancelled = counted true (p .cancelled); stray = p .stray }) room
+      → walkFrom line left s at p room
+      ≡ walkFrom line left s at (record { listener = holding []; handed = p .handed; cancelled = counted true (p .cancelled); stray = p .stray }) room
   walk-over p xs b low heard held long u =
       quietly p (256 + b) (quiet Cancelled (holding (b ∷ []))) heard
       (ap (λ (l : Listener). hearOf l (256 + b)) held ∙ on-command xs b u low ∙ command-cancels xs b long) refl
@@ -94,7 +93,7 @@ module _ (s : List ℕ) (at m n : ℕ) (bytes : List ℕ) (g : Gathering s at by
   tested i l h t e =
       rw (taken (suc i) h, getD-take (suc i) bytes 1 0 (omega arith), ← second (omega arith), e)
 
-  module _ (p : Progress) (left room : ℕ) (fits : m ≤ left) (roomy : 512 ≤ room) (idle : p .listener ≡ holding []) where
+  module _ (line : Line) (p : Progress) (left room : ℕ) (fits : m ≤ left) (roomy : 512 ≤ room) (idle : p .listener ≡ holding []) where
     -- the progress with the first bytes held
     abbrev having : ℕ → Progress
     having i = record { listener = holding (take i bytes); handed = p .handed; cancelled = p .cancelled; stray = p .stray }
@@ -113,23 +112,23 @@ module _ (s : List ℕ) (at m n : ℕ) (bytes : List ℕ) (g : Gathering s at by
         hears i l h ∙ tested i l (omega arith) true (eq-eqb (suc i) n e) ∙ ap (λ (k : ℕ). handed (take k bytes)) e
 
     -- all but the last record leave no text
-    so-far : (i : ℕ) → 0 < i → i ≤ m → i < n → walkFrom left s at p room ≡ walkFrom (left - i) s (at + 8 * i) (having i) room
+    so-far : (i : ℕ) → 0 < i → i ≤ m → i < n → walkFrom line left s at p room ≡ walkFrom line (left - i) s (at + 8 * i) (having i) room
     so-far zero l h b = absurd (omega arith)
     so-far (suc zero) l h b =
-        quietly s at left room (omega arith) roomy (timeAt s at) p (256 + getD bytes 0 0) (quiet Opened (holding (take 1 bytes))) (g .opens) opened refl
+        quietly line s at left room (omega arith) roomy (timeAt s at) p (256 + getD bytes 0 0) (quiet Opened (holding (take 1 bytes))) (g .opens) opened refl
     so-far (suc (suc i)) l h b =
         let k = suc i in
         let less : left - k - 1 ≡ left - suc k = omega arith in
         let next : at + 8 * k + 8 ≡ at + 8 * suc k = omega arith in
         so-far (suc i) (omega arith) (omega arith) (omega arith)
-        ∙ quietly s (at + 8 * k) (left - k) room (omega arith) roomy (timeAt s (at + 8 * k)) (having k) (getD bytes k 0) (quiet Kept (holding (take (suc k) bytes))) (g .follows k (omega arith) (omega arith) .2) (kept k (omega arith) (omega arith) b) refl
+        ∙ quietly line s (at + 8 * k) (left - k) room (omega arith) roomy (timeAt s (at + 8 * k)) (having k) (getD bytes k 0) (quiet Kept (holding (take (suc k) bytes))) (g .follows k (omega arith) (omega arith) .2) (kept k (omega arith) (omega arith) b) refl
         ∙ rw (less, next)
 
     -- the whole datagram is one line, and nothing is held after it
     pub walk-ahead : m ≡ n
-        → walkFrom left s at p room
-        ≡ behind (lineOf (timeAt s (at + 8 * (n - 1))) (take n bytes))
-        (walkFrom (left - n) s (at + 8 * n) (tallied p true false false) (room - length (lineOf (timeAt s (at + 8 * (n - 1))) (take n bytes))))
+        → walkFrom line left s at p room
+        ≡ behind (line (timeAt s (at + 8 * (n - 1))) (take n bytes))
+        (walkFrom line (left - n) s (at + 8 * n) (tallied p true false false) (room - length (line (timeAt s (at + 8 * (n - 1))) (take n bytes))))
     walk-ahead whole =
         let k = n - 1 in
         let some : 0 < k = omega (arith, size) in
@@ -139,14 +138,14 @@ module _ (s : List ℕ) (at m n : ℕ) (bytes : List ℕ) (g : Gathering s at by
         let next : at + 8 * k + 8 ≡ at + 8 * n = omega (arith, size) in
         let all : take (length (take n bytes)) (padTo 18 (take n bytes)) ≡ take n bytes = take-pad 18 (take n bytes) in
         so-far k some (omega arith) (omega arith)
-        ∙ walk-heard s (at + 8 * k) (having k) (left - k) room (omega arith) (timeAt s (at + 8 * k)) (getD bytes k 0) roomy (g .follows k some below .2)
-        ∙ ap (goes-on s room (left - k - 1) (at + 8 * k + 8) (timeAt s (at + 8 * k)) (having k)) (last k some below end)
+        ∙ walk-heard line s (at + 8 * k) (having k) (left - k) room (omega arith) (timeAt s (at + 8 * k)) (getD bytes k 0) roomy (g .follows k some below .2)
+        ∙ ap (goes-on line s room (left - k - 1) (at + 8 * k + 8) (timeAt s (at + 8 * k)) (having k)) (last k some below end)
         ∙ rw (all, less, next, idle)
 
     -- a command symbol before the datagram is whole
     pub walk-cancelled : 0 < m → m < n → m < left → (time b : ℕ) → b < 256 → recordOf s (at + 8 * m) ≡ record-case.Heard time (256 + b)
-        → walkFrom left s at p room ≡ walkFrom (left - m) s (at + 8 * m) (tallied p false true false) room
+        → walkFrom line left s at p room ≡ walkFrom line (left - m) s (at + 8 * m) (tallied p false true false) room
     walk-cancelled l h more time b low heard =
         so-far m l (omega arith) h
-        ∙ walk-over s (at + 8 * m) (left - m) room (omega arith) roomy time (having m) (take m bytes) b low heard refl (omega (arith, taken m (omega arith))) (unfinished m l (omega arith) h)
+        ∙ walk-over line s (at + 8 * m) (left - m) room (omega arith) roomy time (having m) (take m bytes) b low heard refl (omega (arith, taken m (omega arith))) (unfinished m l (omega arith) h)
         ∙ rw idle

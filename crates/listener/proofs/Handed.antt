@@ -9,14 +9,14 @@ use lib.Dec.{leb, ltb, eqb}
 use lib.ListN.{length, getD, take}
 use Rattle.datagram.specs.Whole.{declared, whole}
 use Rattle.datagram.proofs.Padding.{take-pad}
 use Rattle.listener.specs.declared.Listener.{Listener}
 use Rattle.listener.specs.declared.Answer.{Answer}
 use Rattle.listener.specs.declared.Answer.the-variants.{Opened, Cancelled, Stray, Kept, Refused}
 use Rattle.listener.specs.declared.Heard.{Heard}
+use Rattle.listener.specs.Answers.{isHanded}
 use Rattle.listener.specs.State.{sound, heldBytes, holding}
 use Rattle.listener.specs.Step.{hearOf, step, quiet, commandSymbol, otherSymbol, reaching, refusedBy}
 use Rattle.datagram.specs.Refusals.{symbolAbove, notSound}
-use Rattle.progress.specs.Progress.{isHanded}
 
 -- what is handed out is at most 18 bytes and whole, and leaves nothing held; else nothing is
 abbrev Hands : Heard → Type 0

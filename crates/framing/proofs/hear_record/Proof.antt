@@ -4,10 +4,10 @@ use mathlib.Core.Path.{_≡_, refl, sym, ap, _∙_}
 use lib.ListN.{length}
 use Rattle.listener.specs.declared.Heard.{Heard}
 use Rattle.progress.specs.declared.Stop.the-variants.{Running, Stopped}
-use Rattle.listing.proofs.Takes.{took-one, took-none}
-use Rattle.listing.proofs.Walks.{walk-end, walk-refused}
-use Rattle.listing.proofs.block.hear_record.Statement.{statement}
-use Rattle.listing.proofs.block.hear_record.Tie as tie
+use Rattle.framing.proofs.Takes.{took-one, took-none}
+use Rattle.framing.proofs.Walks.{walk-end, walk-refused}
+use Rattle.framing.proofs.hear_record.Statement.{statement}
+use Rattle.framing.proofs.hear_record.Tie as tie
 
 record-at-requires : tie.Need-record-at-requires
 record-at-requires c κs = search needs
@@ -41,7 +41,7 @@ returns c =
     let start = c .before .before .before .before .before in
     let e = c .stopped .ensures in
     took-none Running _
-    (λ left room some roomy. walk-end (start .args .input .now) (start .args .at) (start .args .p) left room some roomy (sym (c .before .before .before .record-at .ensures) ∙ c .before .enum-told .given .1))
+    (λ line left room some roomy. walk-end line (start .args .input .now) (start .args .at) (start .args .p) left room some roomy (sym (c .before .before .before .record-at .ensures) ∙ c .before .enum-told .given .1))
     (e .1) (e .2) (e .3)
 
 returns-2 : tie.Need-returns-2
@@ -50,7 +50,7 @@ returns-2 c =
     let r = c .before .before .r .given in
     let e = c .stopped2 .ensures in
     took-none (Stopped (r .0 .0)) _
-    (λ left room some roomy. walk-refused (start .args .input .now) (start .args .at) (start .args .p) left room some (r .0 .0) roomy (sym (c .before .before .before .before .record-at .ensures) ∙ r .1))
+    (λ line left room some roomy. walk-refused line (start .args .input .now) (start .args .at) (start .args .p) left room some (r .0 .0) roomy (sym (c .before .before .before .before .record-at .ensures) ∙ r .1))
     (e .1) (e .2) (e .3)
 
 returns-3 : tie.Need-returns-3

@@ -5,9 +5,9 @@ use mathlib.Core.Bool.{false≢true}
 use Prim.Native.Nat.{_+_}
 use borrow.Author.Tests.{eqb-true}
 use native.Mathlib.Omega.{arith}
-use Rattle.listing.proofs.Gathering.{carried}
-use Rattle.listing.proofs.block.carries.Statement.{statement}
-use Rattle.listing.proofs.block.carries.Tie as tie
+use Rattle.framing.proofs.Gathering.{carried}
+use Rattle.framing.proofs.carries.Statement.{statement}
+use Rattle.framing.proofs.carries.Tie as tie
 
 shared-slice-read-word-of : tie.Need-shared-slice-read-word-of
 shared-slice-read-word-of c = search needs

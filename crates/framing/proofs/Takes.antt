@@ -19,63 +19,64 @@ use Rattle.recording.specs.declared.Record.the-variants as record-case
 use Rattle.recording.specs.Record.{recordOf, timeAt, byteOf}
 use Rattle.progress.specs.declared.Progress.{Progress}
 use Rattle.progress.specs.declared.Stop.{Stop}
-use Rattle.listing.specs.declared.block.Gathered.{Gathered}
-use Rattle.listing.specs.declared.block.Taken.{Taken}
-use Rattle.listing.specs.Line.{lineOf}
-use Rattle.progress.specs.Progress.{advanced, tallied, isHanded}
-use Rattle.listing.specs.Walk.{walk, behind, walkFrom}
-use Rattle.listing.specs.Taken.{Gave, Took, entry}
-use Rattle.listing.proofs.Ahead.{walk-stray, walk-cancelled, walk-ahead}
-use Rattle.listing.proofs.Gathering.{Gathering}
-use Rattle.listing.proofs.Handed.{hands, declared-whole}
-use Rattle.listing.proofs.Short.{line-short}
-use Rattle.listing.proofs.Walks.{walk-heard}
+use Rattle.framing.specs.declared.Gathered.{Gathered}
+use Rattle.framing.specs.declared.Taken.{Taken}
+use Rattle.listener.specs.Answers.{isHanded}
+use Rattle.progress.specs.Progress.{advanced, tallied}
+use Rattle.framing.specs.Walk.{Line, walk, behind, walkFrom, recordsFrom}
+use Rattle.framing.specs.Taken.{Gave, Took, entry}
+use Rattle.framing.proofs.Ahead.{walk-stray, walk-cancelled, walk-ahead}
+use Rattle.framing.proofs.Gathering.{Gathering}
+use Rattle.listener.proofs.Handed.{hands, declared-whole}
+use Rattle.framing.proofs.Walks.{walk-heard}
 
 -- where no record is used, nothing is said
-pub unused : {A : Type 0} {g : Gathered} → g ≡ record { used = 0; count = 0; cancelled = false; stray = false } → 0 < g .used → A
+pub unused : {A : Type 0} {g : Gathered} → g ≡ record { used = 0; count = 0; time = 0; cancelled = false; stray = false } → 0 < g .used → A
 unused {A} {g} e h = absurd (omega (arith, rw e at h))
 
 -- records that put no text
-module _ {s bytes : List ℕ} {at left used : ℕ} {cancelled stray : Bool} where
-  silently : used ≤ left
-      → ((p : Progress) (room : ℕ) → p .listener ≡ holding [] → 512 ≤ room
-      → walkFrom left s at p room ≡ walkFrom (left - used) s (at + 8 * used) (tallied p false cancelled stray) room)
-      → (g : Gathered) → g ≡ record { used = used; count = 0; cancelled = cancelled; stray = stray } → Gave s at left bytes g
+module _ {s bytes : List ℕ} {at used : ℕ} {cancelled stray : Bool} where
+  silently : used ≤ recordsFrom s at
+      → ((line : Line) (p : Progress) (room : ℕ) → p .listener ≡ holding [] → 512 ≤ room
+      → walkFrom line (recordsFrom s at) s at p room ≡ walkFrom line (recordsFrom s at - used) s (at + 8 * used) (tallied p false cancelled stray) room)
+      → (g : Gathered) → g ≡ record { used = used; count = 0; time = 0; cancelled = cancelled; stray = stray } → Gave s at bytes g
   silently fits goes g e =
       rw e
       (record {
         fits = fits;
         most = omega arith;
         handed = λ h. absurd (omega arith);
-        goes = λ p room idle roomy. goes p room idle roomy ∙ rw sub-zero;
+        goes = λ line p room idle roomy. goes line p room idle roomy ∙ rw sub-zero;
       })
 
-module _ {s bytes : List ℕ} {at left : ℕ} where
-  pub gave-stray : (b : ℕ) → 0 < left → b < 256 → recordOf s at ≡ record-case.Heard (timeAt s at) b
-      → (g : Gathered) → g ≡ record { used = 1; count = 0; cancelled = false; stray = true } → Gave s at left bytes g
+module _ {s bytes : List ℕ} {at : ℕ} where
+  pub gave-stray : (b : ℕ) → 0 < recordsFrom s at → b < 256 → recordOf s at ≡ record-case.Heard (timeAt s at) b
+      → (g : Gathered) → g ≡ record { used = 1; count = 0; time = 0; cancelled = false; stray = true } → Gave s at bytes g
   gave-stray b some low heard =
-      silently (omega arith) (λ p room idle roomy. walk-stray s at left room some roomy (timeAt s at) p b low heard idle)
+      silently (omega arith)
+      (λ line p room idle roomy. walk-stray line s at (recordsFrom s at) room some roomy (timeAt s at) p b low heard idle)
 
-module _ {s bytes : List ℕ} {at left m n : ℕ} (a : Gathering s at bytes m) (size : n ≡ declared (byteOf s at 14)) (fits : n ≤ left) where
+module _ {s bytes : List ℕ} {at m n : ℕ} (a : Gathering s at bytes m) (size : n ≡ declared (byteOf s at 14)) (fits : n ≤ recordsFrom s at) where
   pub gave-cancelled : (b : ℕ) → 0 < m → m < n → b < 256 → recordOf s (at + 8 * m) ≡ record-case.Heard (timeAt s (at + 8 * m)) (256 + b)
-      → (g : Gathered) → g ≡ record { used = m; count = 0; cancelled = true; stray = false } → Gave s at left bytes g
+      → (g : Gathered) → g ≡ record { used = m; count = 0; time = 0; cancelled = true; stray = false } → Gave s at bytes g
   gave-cancelled b some below low heard =
       silently (omega arith)
-      (λ p room idle roomy. walk-cancelled s at m n bytes a size (omega arith) p left room (omega arith) roomy idle some below (omega arith) (timeAt s (at + 8 * m)) b low heard)
+      (λ line p room idle roomy. walk-cancelled s at m n bytes a size (omega arith) line p (recordsFrom s at) room (omega arith) roomy idle some below (omega arith) (timeAt s (at + 8 * m)) b low heard)
 
-  pub gave-whole : m ≡ n → (g : Gathered) → g ≡ record { used = n; count = n; cancelled = false; stray = false } → Gave s at left bytes g
-  gave-whole all g e =
+  pub gave-whole : m ≡ n → (time : ℕ) → time ≡ timeAt s (at + 8 * (n - 1))
+      → (g : Gathered) → g ≡ record { used = n; count = n; time = time; cancelled = false; stray = false } → Gave s at bytes g
+  gave-whole all time last g e =
       let long : length (take n bytes) ≡ n = length-take-le n bytes (omega (arith, size, a .long)) in
       let second : getD bytes 1 0 ≡ byteOf s at 14 = a .follows 1 (omega arith) (omega (arith, size)) .0 ∙ ap (λ (k : ℕ). getD s k 0) (omega arith) in
       let declares : length (take n bytes) ≡ declared (getD (take n bytes) 1 0) =
       long ∙ size ∙ ap declared (sym (getD-take n bytes 1 0 (omega (arith, size)) ∙ second)) in
-      rw e
+      rw (e, last)
       (record {
         fits = fits;
         most = omega (arith, size);
         handed = λ h. declared-whole (take n bytes) declares;
-        goes = λ p room idle roomy.
-            walk-ahead s at m n bytes a size (omega arith) p left room (omega arith) roomy idle all
+        goes = λ line p room idle roomy.
+            walk-ahead s at m n bytes a size (omega arith) line p (recordsFrom s at) room (omega arith) roomy idle all
             ∙ rw (lt-ltb 0 n (omega (arith, size)), ne-eqb (length (take n bytes)) 0 (λ z. omega (arith, size, long)));
       })
 
@@ -87,9 +88,9 @@ module _ (time symbol : ℕ) (l : Listener) where
   abbrev out : List ℕ
   out = take (h .count) (h .bytes)
 
-  entry-taken : (b : Bool) → isHanded (h .answer) ≡ b → cond b (lineOf time out) [] ≡ entry time out
-  entry-taken true e = rw (ne-eqb (length out) 0 (λ z. omega (arith, declares out (hands l symbol .0 e .1))))
-  entry-taken false e = rw (hands l symbol .1 e)
+  entry-taken : (line : Line) (b : Bool) → isHanded (h .answer) ≡ b → cond b (line time out) [] ≡ entry line time out
+  entry-taken line true e = rw (ne-eqb (length out) 0 (λ z. omega (arith, declares out (hands l symbol .0 e .1))))
+  entry-taken line false e = rw (hands l symbol .1 e)
 
   most-heard : (b : Bool) → isHanded (h .answer) ≡ b → h .count ≤ 18
   most-heard true e = hands l symbol .0 e .0
@@ -111,12 +112,12 @@ module _ {s : List ℕ} {at : ℕ} {p : Progress} where
         most = rw count (most-heard time symbol l _ refl);
         handed = rw (count, bytes, progress) (λ some. let w = hands l symbol .0 (is-handed time symbol l _ refl some) in (w .1, w .2));
         ends = λ z. absurd (omega (arith, used));
-        goes = λ one left room some roomy.
+        goes = λ one line left room some roomy.
             rw (count, bytes, progress, at-time)
-            (walk-heard s at p left room some time symbol roomy heard ∙ rw (entry-taken time symbol l _ refl));
+            (walk-heard line s at p left room some time symbol roomy heard ∙ rw (entry-taken time symbol l line _ refl));
       }
 
-  pub took-none : (stop : Stop) (t : Taken) → ((left room : ℕ) → 0 < left → 512 ≤ room → walkFrom left s at p room ≡ walk [] p at stop)
+  pub took-none : (stop : Stop) (t : Taken) → ((line : Line) (left room : ℕ) → 0 < left → 512 ≤ room → walkFrom line left s at p room ≡ walk [] p at stop)
       → t .used ≡ 0 → t .count ≡ 0 → t .stop ≡ stop → Took s at p t
   took-none stop t ends used count e =
       record {
@@ -127,31 +128,23 @@ module _ {s : List ℕ} {at : ℕ} {p : Progress} where
         goes = λ one. absurd (omega (arith, used));
       }
 
--- a line, or nothing, fits in the room for a line
-pub entry-short : (time : ℕ) (bytes : List ℕ) → length bytes ≤ 18 → length (entry time bytes) ≤ 512
-entry-short time bytes h = go (eqb (length bytes) 0)
-  where
-    go : (b : Bool) → length (cond b [] (lineOf time bytes)) ≤ 512
-    go true = omega arith
-    go false = line-short time bytes h
-
 -- one turn: these records are used, in the way of the walk
-pub record Stepped (s : List ℕ) (at left : ℕ) (q : Progress) (room : ℕ) (bytes : List ℕ) (p : Progress) (idle : Bool) (used count time : ℕ) : Type 0 where
+pub record Stepped (line : Line) (s : List ℕ) (at left : ℕ) (q : Progress) (room : ℕ) (bytes : List ℕ) (p : Progress) (idle : Bool) (used count time : ℕ) : Type 0 where
   pub some : 0 < used
   pub fits : used ≤ left
   pub long : length bytes ≡ 18
   pub most : count ≤ 18
   pub handed : 0 < count → whole (take count bytes) ≡ true
   pub rests : idle ≡ true → p .listener ≡ holding []
-  pub goes : walkFrom left s at q room
-      ≡ behind (entry time (take count bytes)) (walkFrom (left - used) s (at + 8 * used) p (room - length (entry time (take count bytes))))
+  pub goes : walkFrom line left s at q room
+      ≡ behind (entry line time (take count bytes)) (walkFrom line (left - used) s (at + 8 * used) p (room - length (entry line time (take count bytes))))
 
-module _ {s : List ℕ} {at left room : ℕ} {q : Progress} (roomy : 512 ≤ room) {bytes : List ℕ} {p : Progress} {idle : Bool} {used count time : ℕ} where
-  pub stepped-gave : {stored : List ℕ} (g : Gathered) → Gave s at left stored g → length stored ≡ 18 → 0 < g .used → q .listener ≡ holding []
+module _ {line : Line} {s : List ℕ} {at left room : ℕ} {q : Progress} (roomy : 512 ≤ room) {bytes : List ℕ} {p : Progress} {idle : Bool} {used count time : ℕ} where
+  pub stepped-gave : {stored : List ℕ} (g : Gathered) → Gave s at stored g → left ≡ recordsFrom s at → length stored ≡ 18 → 0 < g .used → q .listener ≡ holding []
       → bytes ≡ stored → p ≡ tallied q (ltb 0 (g .count)) (g .cancelled) (g .stray) → used ≡ g .used → count ≡ g .count
-      → time ≡ timeAt s (at + 8 * (g .used - 1)) → Stepped s at left q room bytes p idle used count time
-  stepped-gave g gave long some silent eb ep eu ec et =
-      rw (eb, ep, eu, ec, et)
+      → time ≡ g .time → Stepped line s at left q room bytes p idle used count time
+  stepped-gave g gave all long some silent eb ep eu ec et =
+      rw (all, eb, ep, eu, ec, et)
       (record {
         some = some;
         fits = gave .fits;
@@ -159,12 +152,12 @@ module _ {s : List ℕ} {at left room : ℕ} {q : Progress} (roomy : 512 ≤ roo
         most = gave .most;
         handed = gave .handed;
         rests = λ e. silent;
-        goes = gave .goes q room silent roomy;
+        goes = gave .goes line q room silent roomy;
       })
 
   pub stepped-took : (t : Taken) → Took s at q t → 0 < t .used → 0 < left
       → bytes ≡ t .bytes → p ≡ t .progress → idle ≡ ltb 0 (t .count) → used ≡ 1 → count ≡ t .count → time ≡ t .time
-      → Stepped s at left q room bytes p idle used count time
+      → Stepped line s at left q room bytes p idle used count time
   stepped-took t took some more eb ep ei eu ec et =
       rw (eb, ep, ei, eu, ec, et)
       (record {
@@ -174,5 +167,5 @@ module _ {s : List ℕ} {at left room : ℕ} {q : Progress} (roomy : 512 ≤ roo
         most = took .most;
         handed = λ h. took .handed h .0;
         rests = λ e. took .handed (ltb-true _ _ e) .1;
-        goes = took .goes some left room more roomy;
+        goes = took .goes some line left room more roomy;
       })

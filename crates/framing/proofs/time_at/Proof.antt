@@ -2,8 +2,8 @@
 use borrow.Author.Needs.{needs}
 use Prim.Native.Nat.{_+_}
 use native.Mathlib.Omega.{arith}
-use Rattle.listing.proofs.block.time_at.Statement.{statement}
-use Rattle.listing.proofs.block.time_at.Tie as tie
+use Rattle.framing.proofs.time_at.Statement.{statement}
+use Rattle.framing.proofs.time_at.Tie as tie
 
 add-word-of : tie.Need-add-word-of
 add-word-of c = search needs
