@@ -10,7 +10,8 @@ use Rattle.message.specs.Reading.{readKind, readOf}
 use Rattle.message.specs.Table.{kinds, findOf}
 use Rattle.recording.specs.Record.{recordOf}
 use Rattle.listing.specs.Text.{decimal}
-use Rattle.listing.specs.Walk.{walkAll, listingOf}
+use Rattle.framing.specs.Walk.{walkAll}
+use Rattle.listing.specs.Walk.{listingOf}
 use Rattle.blocks.specs.Document.{DocumentListed}
 
 pub ten-symbols : DocumentListed

@@ -1,6 +1,6 @@
 -- The laws of the walks of a listing.
 use mathlib.Core.Path.{refl}
-use Rattle.progress.specs.Progress.{isHanded, isCancelled, isStray}
+use Rattle.listener.specs.Answers.{isHanded, isCancelled, isStray}
 use Rattle.blocks.specs.Laws.{BlockLaws}
 use Rattle.blocks.proofs.Room.{rest-of, no-rest}
 use Rattle.blocks.proofs.Cuts.{then-the-rest, already-stopped}

@@ -12,16 +12,17 @@ use Rattle.recording.specs.Record.{recordOf}
 use Rattle.progress.specs.declared.Progress.{Progress}
 use Rattle.progress.specs.declared.Stop.{Stop}
 use Rattle.progress.specs.declared.Stop.the-variants.{Running, Stopped}
-use Rattle.listing.specs.Line.{headerLine}
+use Rattle.listing.specs.Line.{lineOf, headerLine}
 use Rattle.progress.specs.Progress.{begun, cutOff}
-use Rattle.listing.specs.Walk.{Walk, walkAll, recordsIn, endOf, endText, listingOf}
+use Rattle.framing.specs.Walk.{Walk, walkAll, recordsIn}
+use Rattle.listing.specs.Walk.{endOf, endText, listingOf}
 use Rattle.blocks.specs.Laws.{stopFrom, onward, pieced, joined}
 use Rattle.blocks.proofs.Records.{recordFrom, without}
 use Rattle.blocks.proofs.Cuts.{reached, then-the-rest, already-stopped}
 
 -- the walk of a recording's whole records
 abbrev walked : Progress → List ℕ → Walk
-walked p s = walkAll (recordsIn s) s 0 p
+walked p s = walkAll lineOf (recordsIn s) s 0 p
 
 -- its text and last lines, with offsets counted from so many bytes earlier
 abbrev textFrom : Progress → ℕ → List ℕ → List ℕ

@@ -12,14 +12,15 @@ use Rattle.recording.specs.Record.{recordOf}
 use Rattle.progress.specs.declared.Progress.{Progress}
 use Rattle.progress.specs.declared.Stop.the-variants.{Running, Stopped}
 use Rattle.progress.specs.Progress.{advanced}
-use Rattle.listing.specs.Walk.{Walk, walk, behind, entryOf, walkRecord, walkAll}
+use Rattle.listing.specs.Line.{lineOf}
+use Rattle.framing.specs.Walk.{Walk, walk, behind, entryOf, walkRecord, walkAll}
 
 -- of so many records from an offset on, a walk that leaves so many
 pub data Stretch (s : List ℕ) : ℕ → ℕ → Progress → ℕ → Walk → Type 0 where
   here : {n at : ℕ} {p : Progress} → Stretch s n at p n (walk [] p at Running)
   further : {n at left : ℕ} {p : Progress} {w : Walk} (time symbol : ℕ) → recordOf s at ≡ record-case.Heard time symbol
       → Stretch s n (at + 8) (advanced p (hearOf (p .listener) symbol)) left w
-      → Stretch s (suc n) at p left (behind (entryOf time (hearOf (p .listener) symbol)) w)
+      → Stretch s (suc n) at p left (behind (entryOf lineOf time (hearOf (p .listener) symbol)) w)
   refused : {n at : ℕ} {p : Progress} (r : Refusal) → recordOf s at ≡ record-case.Refused r
       → Stretch s (suc n) at p (suc n) (walk [] p at (Stopped r))
 
@@ -30,7 +31,7 @@ Broken s n at p w = (left : ℕ) × Stretch s n at p left w
 -- one record, and then a walk of the others that is broken off
 pub one-more : {s : List ℕ} {n at : ℕ} {p : Progress} (rest : ℕ → Heard → Walk) (r : Record) → recordOf s at ≡ r
     → ((time : ℕ) (h : Heard) → Broken s n (at + 8) (advanced p h) (rest time h))
-    → Broken s (suc n) at p (walkRecord r p at (λ time h. behind (entryOf time h) (rest time h)))
+    → Broken s (suc n) at p (walkRecord r p at (λ time h. behind (entryOf lineOf time h) (rest time h)))
 one-more rest (record-case.Heard time symbol) e b =
     let t = b time (hearOf _ symbol) in
     (t .0, further time symbol e (t .1))
@@ -46,7 +47,7 @@ taken (refused r e) = omega arith
 
 -- where it did not stop, the walk of them all is what it gave and then the walk of those left
 pub goes-on : {s : List ℕ} {n at left : ℕ} {p : Progress} {w : Walk} → Stretch s n at p left w → w .stop ≡ Running
-    → walkAll n s at p ≡ behind (w .text) (walkAll left s (w .reached) (w .progress))
+    → walkAll lineOf n s at p ≡ behind (w .text) (walkAll lineOf left s (w .reached) (w .progress))
 unfolding walkAll
 goes-on here h = refl
 goes-on (further time symbol e t) h = rw (e, goes-on t h, append-assoc)
@@ -54,7 +55,7 @@ goes-on (refused r e) h = cc
 
 -- where it stopped, so does the walk of them all
 pub has-stopped : {s : List ℕ} {n at left : ℕ} {p : Progress} {w : Walk} (r : Refusal) → Stretch s n at p left w → w .stop ≡ Stopped r
-    → walkAll n s at p ≡ w
+    → walkAll lineOf n s at p ≡ w
 unfolding walkAll
 has-stopped q here h = cc
 has-stopped q (further time symbol e t) h = rw (e, has-stopped q t h)

@@ -15,7 +15,7 @@ use Rattle.listing.specs.Walk.{stopText}
 use Rattle.progress.specs.declared.Stop.{Stop}
 use Rattle.progress.specs.declared.Stop.the-variants.{Running, Stopped}
 use Rattle.listing.proofs.Decimal.{decimal-most}
-use Rattle.listing.proofs.Spaced.{numbers-length}
+use Rattle.listing.proofs.Spaced.{label-length}
 
 name-most : (k : Kind) → length (nameOf k) ≤ 9
 name-most kind.Depth = omega arith
@@ -64,7 +64,7 @@ fields-most (Turn degrees right rudder) = omega arith
 
 pub content-most : (reading : Reading) → length (contentOf reading) ≤ 142
 content-most (Read m) =
-    simp length-append (omega (arith, name-most (kindOf m), numbers-length (fieldsOf m), fields-most m))
+    omega (arith, label-length (nameOf (kindOf m)) (fieldsOf m), name-most (kindOf m), fields-most m)
 content-most (Refused r) = omega (arith, decimal-most (r .number))
 
 pub stop-most : (stop : Stop) → length (stopText stop) ≤ 53

@@ -33,15 +33,20 @@ numbers-append : (xs ys : List ℤ) → spacedNumbers (xs ++ ys) ≡ spacedNumbe
 numbers-append [] ys = refl
 numbers-append (x ∷ xs) ys = rw (numbers-append xs ys, append-assoc (signedDecimal x))
 
--- one list of numbers after another
-pub numbers-then : (xs ys : List ℤ) {a b c : List ℕ} {at m n : ℕ} → Put a at (spacedNumbers xs) b m → Put b m (spacedNumbers ys) c n
-    → Put a at (spacedNumbers (xs ++ ys)) c n
-numbers-then xs ys p q = rw (numbers-append xs ys) (put-then p q)
+-- more numbers behind a label and numbers
+pub label-then : (label : List ℕ) (xs ys : List ℤ) {a b c : List ℕ} {at m n : ℕ} → Put a at (label ++ spacedNumbers xs) b m
+    → Put b m (spacedNumbers ys) c n → Put a at (label ++ spacedNumbers (xs ++ ys)) c n
+label-then label xs ys p q =
+    rw (numbers-append xs ys, ← append-assoc label (spacedNumbers xs) (spacedNumbers ys)) (put-then p q)
 
-pub signed-most : (z : ℤ) → length (signedDecimal z) ≤ 21
+signed-most : (z : ℤ) → length (signedDecimal z) ≤ 21
 signed-most (pos n) = omega (arith, decimal-most n)
 signed-most (negsuc n) = omega (arith, decimal-most (suc n))
 
-pub numbers-length : (zs : List ℤ) → length (spacedNumbers zs) ≤ 22 * length zs
+numbers-length : (zs : List ℤ) → length (spacedNumbers zs) ≤ 22 * length zs
 numbers-length [] = omega arith
 numbers-length (z ∷ zs) = simp length-append (omega (arith, signed-most z, numbers-length zs))
+
+-- how long a label and numbers may be
+pub label-length : (label : List ℕ) (zs : List ℤ) → length (label ++ spacedNumbers zs) ≤ length label + 22 * length zs
+label-length label zs = omega (arith, length-append label (spacedNumbers zs), numbers-length zs)

@@ -1,13 +1,6 @@
 // What a datagram says, as text: the name and the fields of its message, or what refused it.
-use crate::put_bytes;
-use crate::put_flagged;
-use crate::put_flags;
-use crate::put_number;
 use crate::put_refused;
-use crate::put_signed;
-use crate::put_three;
-use crate::put_two;
-use crate::put_two_flagged;
+use crate::shapes;
 use datagram::NOT_WHOLE;
 use datagram::UNKNOWN_COMMAND;
 use message::Kind;
@@ -93,115 +86,87 @@ fn put_message(pairs: &[u8; 712], out: &mut [u8], at: usize, m: Message) -> usiz
             defective,
             deep,
             shallow,
-        } => {
-            let mut p = put_bytes(out, at, b" depth");
-            p = put_flagged(pairs, out, p, tenths, anchor);
-            p = put_flags(out, p, metric, defective);
-            put_flags(out, p, deep, shallow)
-        }
-        Message::WindAngle { halves } => {
-            let p = put_bytes(out, at, b" windangle");
-            put_number(pairs, out, p, halves)
-        }
-        Message::WindSpeed { tenths, metres } => {
-            let p = put_bytes(out, at, b" windspeed");
-            put_flagged(pairs, out, p, tenths, metres)
-        }
-        Message::Speed { tenths } => {
-            let p = put_bytes(out, at, b" speed");
-            put_number(pairs, out, p, tenths)
-        }
-        Message::Trip { hundredths } => {
-            let p = put_bytes(out, at, b" trip");
-            put_number(pairs, out, p, hundredths)
-        }
-        Message::Total { tenths } => {
-            let p = put_bytes(out, at, b" total");
-            put_number(pairs, out, p, tenths)
-        }
-        Message::Logs { total, trip } => {
-            let p = put_bytes(out, at, b" logs");
-            put_two(pairs, out, p, total, trip)
-        }
+        } => shapes::five_flags(
+            pairs,
+            out,
+            at,
+            b" depth",
+            tenths,
+            anchor,
+            metric,
+            defective,
+            deep,
+            shallow,
+        ),
+        Message::WindAngle { halves } => shapes::one(pairs, out, at, b" windangle", halves),
+        Message::WindSpeed { tenths, metres } => shapes::flagged(
+            pairs,
+            out,
+            at,
+            b" windspeed",
+            tenths,
+            metres,
+        ),
+        Message::Speed { tenths } => shapes::one(pairs, out, at, b" speed", tenths),
+        Message::Trip { hundredths } => shapes::one(pairs, out, at, b" trip", hundredths),
+        Message::Total { tenths } => shapes::one(pairs, out, at, b" total", tenths),
+        Message::Logs { total, trip } => shapes::two(pairs, out, at, b" logs", total, trip),
         Message::Speeds {
             speed,
             average,
             valid,
             stopped,
             mph,
-        } => {
-            let mut p = put_bytes(out, at, b" speeds");
-            p = put_two_flagged(pairs, out, p, speed, average, valid);
-            put_flags(out, p, stopped, mph)
-        }
-        Message::Water { tenths } => {
-            let p = put_bytes(out, at, b" water");
-            put_signed(pairs, out, p, tenths)
-        }
-        Message::Lamp { level } => {
-            let p = put_bytes(out, at, b" lamp");
-            put_number(pairs, out, p, level)
-        }
+        } => shapes::three_flags(
+            pairs,
+            out,
+            at,
+            b" speeds",
+            speed,
+            average,
+            valid,
+            stopped,
+            mph,
+        ),
+        Message::Water { tenths } => shapes::signed(pairs, out, at, b" water", tenths),
+        Message::Lamp { level } => shapes::one(pairs, out, at, b" lamp", level),
         Message::Latitude {
             degrees,
             hundredths,
             south,
-        } => {
-            let p = put_bytes(out, at, b" lat");
-            put_two_flagged(pairs, out, p, degrees, hundredths, south)
-        }
+        } => shapes::two_flagged(pairs, out, at, b" lat", degrees, hundredths, south),
         Message::Longitude {
             degrees,
             hundredths,
             east,
-        } => {
-            let p = put_bytes(out, at, b" lon");
-            put_two_flagged(pairs, out, p, degrees, hundredths, east)
-        }
-        Message::Ground { tenths } => {
-            let p = put_bytes(out, at, b" ground");
-            put_number(pairs, out, p, tenths)
-        }
-        Message::Course { halves } => {
-            let p = put_bytes(out, at, b" course");
-            put_number(pairs, out, p, halves)
-        }
+        } => shapes::two_flagged(pairs, out, at, b" lon", degrees, hundredths, east),
+        Message::Ground { tenths } => shapes::one(pairs, out, at, b" ground", tenths),
+        Message::Course { halves } => shapes::one(pairs, out, at, b" course", halves),
         Message::Time {
             hours,
             minutes,
             seconds,
-        } => {
-            let p = put_bytes(out, at, b" time");
-            put_three(pairs, out, p, hours, minutes, seconds)
-        }
-        Message::Date { month, day, year } => {
-            let p = put_bytes(out, at, b" date");
-            put_three(pairs, out, p, month, day, year)
-        }
-        Message::Key { source, code } => {
-            let p = put_bytes(out, at, b" key");
-            put_two(pairs, out, p, source, code)
-        }
+        } => shapes::three(pairs, out, at, b" time", hours, minutes, seconds),
+        Message::Date { month, day, year } => shapes::three(
+            pairs,
+            out,
+            at,
+            b" date",
+            month,
+            day,
+            year,
+        ),
+        Message::Key { source, code } => shapes::two(pairs, out, at, b" key", source, code),
         Message::Heading {
             halves,
             reference,
             locked,
-        } => {
-            let p = put_bytes(out, at, b" heading");
-            put_two_flagged(pairs, out, p, halves, reference, locked)
-        }
-        Message::Variation { east } => {
-            let p = put_bytes(out, at, b" variation");
-            put_signed(pairs, out, p, east)
-        }
+        } => shapes::two_flagged(pairs, out, at, b" heading", halves, reference, locked),
+        Message::Variation { east } => shapes::signed(pairs, out, at, b" variation", east),
         Message::Turn {
             degrees,
             right,
             rudder,
-        } => {
-            let mut p = put_bytes(out, at, b" turn");
-            p = put_flagged(pairs, out, p, degrees, right);
-            put_signed(pairs, out, p, rudder)
-        }
+        } => shapes::flag_signed(pairs, out, at, b" turn", degrees, right, rudder),
     }
 }

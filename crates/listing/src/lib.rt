@@ -1,6 +1,7 @@
 // The listing: a recording as lines of text, block by block, in a lent buffer.
 pub mod block;
 mod content;
+mod shapes;
 
 use datagram::Refusal;
 use progress::Progress;
@@ -320,51 +321,6 @@ fn put_labelled(pairs: &[u8; 712], out: &mut [u8], at: usize, label: &[u8], n: u
 {
     let p = put_bytes(out, at, label);
     put_decimal(pairs, out, p, n)
-}
-
-// Puts two fields.
-fn put_two(pairs: &[u8; 712], out: &mut [u8], at: usize, a: u32, b: u32) -> usize
-    requires { ⌜ (now pairs ≡ digitPairs) × (at + 44 ≤ length (now out)) ⌝ }
-    ensures { λ r. ⌜ Put (now (out .entry)) at (spacedNumbers (pos a ∷ pos b ∷ [])) (now (out .exit)) r ⌝ }
-{
-    let p = put_number(pairs, out, at, a);
-    put_number(pairs, out, p, b)
-}
-
-// Puts three fields.
-fn put_three(pairs: &[u8; 712], out: &mut [u8], at: usize, a: u32, b: u32, c: u32) -> usize
-    requires { ⌜ (now pairs ≡ digitPairs) × (at + 66 ≤ length (now out)) ⌝ }
-    ensures { λ r. ⌜ Put (now (out .entry)) at (spacedNumbers (pos a ∷ pos b ∷ pos c ∷ [])) (now (out .exit)) r ⌝ }
-{
-    let p = put_two(pairs, out, at, a, b);
-    put_number(pairs, out, p, c)
-}
-
-// Puts a field and a flag.
-fn put_flagged(pairs: &[u8; 712], out: &mut [u8], at: usize, a: u32, on: bool) -> usize
-    requires { ⌜ (now pairs ≡ digitPairs) × (at + 44 ≤ length (now out)) ⌝ }
-    ensures { λ r. ⌜ Put (now (out .entry)) at (spacedNumbers (pos a ∷ pos (num on) ∷ [])) (now (out .exit)) r ⌝ }
-{
-    let p = put_number(pairs, out, at, a);
-    put_flag(out, p, on)
-}
-
-// Puts two fields and a flag.
-fn put_two_flagged(pairs: &[u8; 712], out: &mut [u8], at: usize, a: u32, b: u32, on: bool) -> usize
-    requires { ⌜ (now pairs ≡ digitPairs) × (at + 66 ≤ length (now out)) ⌝ }
-    ensures { λ r. ⌜ Put (now (out .entry)) at (spacedNumbers (pos a ∷ pos b ∷ pos (num on) ∷ [])) (now (out .exit)) r ⌝ }
-{
-    let p = put_two(pairs, out, at, a, b);
-    put_flag(out, p, on)
-}
-
-// Puts two flags.
-fn put_flags(out: &mut [u8], at: usize, a: bool, b: bool) -> usize
-    requires { ⌜ at + 44 ≤ length (now out) ⌝ }
-    ensures { λ r. ⌜ Put (now (out .entry)) at (spacedNumbers (pos (num a) ∷ pos (num b) ∷ [])) (now (out .exit)) r ⌝ }
-{
-    let p = put_flag(out, at, a);
-    put_flag(out, p, b)
 }
 
 // Puts what refused a datagram.

@@ -1,0 +1,30 @@
+-- `three` puts one more behind `two`.
+use borrow.Author.Needs.{needs}
+use mathlib.Core.List.{[], _∷_}
+use native.Mathlib.Omega.{arith}
+use lib.IntN.{pos}
+use Rattle.number.specs.Word.{num}
+use Rattle.listing.proofs.Put.{put-length}
+use Rattle.listing.proofs.Spaced.{label-then, label-length}
+use Rattle.listing.proofs.shapes.three.Statement.{statement}
+use Rattle.listing.proofs.shapes.three.Tie as tie
+
+two-requires : tie.Need-two-requires
+two-requires c κs = search needs
+
+put-number-requires : tie.Need-put-number-requires
+put-number-requires c κs =
+    let start = c .before .before .before .before .before .before .before in
+    let p = c .before .before .before .two .ensures in
+    (start .pre .0, omega (arith, p .moved, put-length p, label-length (start .args .label .now) (pos (start .args .a) ∷ pos (start .args .b) ∷ [])))
+
+returns : tie.Need-returns
+returns c =
+    let start = c .before .before .before .before .before .before .before .before .before .before in
+    label-then (start .args .label .now) (pos (start .args .a) ∷ pos (start .args .b) ∷ []) (pos (start .args .c) ∷ []) (c .before .before .before .before .before .before .two .ensures) (c .before .before .put-number .ensures)
+
+same-length : tie.Need-same-length
+same-length c = put-length (returns c)
+
+pub three-spec : {M : Type 1} → statement M
+three-spec = tie.close (tie.spec two-requires put-number-requires same-length returns)
