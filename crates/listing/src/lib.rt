@@ -3,7 +3,7 @@ pub mod block;
 mod kinds;
 
 use datagram::Refusal;
-use datagram::UNKNOWN_COMMAND;
+use datagram::refusals::UNKNOWN_COMMAND;
 use message::Lookup;
 use message::Reading;
 use progress::Progress;

@@ -3,13 +3,13 @@ mod kinds;
 mod numbers;
 
 use datagram::Refusal;
-use datagram::UNKNOWN_COMMAND;
-use datagram::WRONG_LENGTH;
+use datagram::refusals::UNKNOWN_COMMAND;
+use datagram::refusals::WRONG_LENGTH;
+use datagram::refusals::out_of_range;
 use message::Kind;
 use message::Lookup;
 use message::Message;
 use message::Verdict;
-use message::range::out_of_range;
 use message::range::range_of;
 ghost use mathlib.Core.Path.{_≡_};
 ghost use mathlib.Core.Bool.{cond};

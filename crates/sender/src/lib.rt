@@ -1,9 +1,9 @@
 // The sender: offers a datagram to the bus, symbol by symbol, and checks each against its own echo.
-use datagram::BAD_WAIT_OR_LIMIT;
-use datagram::NOT_SOUND;
-use datagram::NOT_WHOLE;
 use datagram::Refusal;
-use datagram::SYMBOL_ABOVE;
+use datagram::refusals::BAD_WAIT_OR_LIMIT;
+use datagram::refusals::NOT_SOUND;
+use datagram::refusals::NOT_WHOLE;
+use datagram::refusals::SYMBOL_ABOVE;
 ghost use mathlib.Core.Path.{_≡_};
 ghost use Prim.Native.Nat.{_<_, _≤_};
 ghost use lib.ListN.{length};
