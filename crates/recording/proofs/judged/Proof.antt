@@ -1,17 +1,29 @@
 -- `judged` makes the definition's tests of the mark and the symbol, in that order.
 use borrow.Author.Needs.{needs}
 use borrow.Author.Tests.{eq-eqb, ne-eqb, le-leb, lt-leb}
-use mathlib.Core.Path.{ap, _∙_}
+use Prim.Native.Nat.{ℕ, _+_, _*_}
+use mathlib.Core.Path.{_≡_, sym, ap, _∙_}
+use mathlib.Core.Bool.{false, _&&_}
 use native.Mathlib.Omega.{arith}
+use lib.Dec.{eqb}
+use Rattle.datagram.specs.Refusals.{noMark}
 use Rattle.recording.specs.declared.Record.the-variants.{Refused}
+use Rattle.recording.specs.Record.{judgedRecord}
 use Rattle.recording.proofs.judged.Statement.{statement}
 use Rattle.recording.proofs.judged.Tie as tie
+
+-- 10 comes before 1, whatever the symbol
+unmarked : (at mark second time symbol : ℕ) → eqb mark 0x53 && eqb second 0x54 ≡ false → judgedRecord at mark second time symbol ≡ Refused (noMark at)
+unmarked at mark second time symbol h = rw h
 
 no-mark-requires : tie.Need-no-mark-requires
 no-mark-requires c κs = search needs
 
 returns : tie.Need-returns
-returns c = ap Refused (c .no-mark .ensures) ∙ rw (ne-eqb (c .before .before .args .mark) 0x53 (λ e. omega (arith, c .before .if1 .taken)))
+returns c =
+    let a = c .before .before .args in
+    ap Refused (c .no-mark .ensures)
+    ∙ sym (unmarked (a .at) (a .mark) (a .second) (a .low + 65536 * a .high) (a .symbol) (rw (ne-eqb (a .mark) 0x53 (λ e. omega (arith, c .before .if1 .taken)))))
 
 no-mark-requires-2 : tie.Need-no-mark-requires-2
 no-mark-requires-2 c κs = search needs
@@ -19,7 +31,9 @@ no-mark-requires-2 c κs = search needs
 returns-2 : tie.Need-returns-2
 returns-2 c =
     let start = c .before .before .before in
-    ap Refused (c .no-mark2 .ensures) ∙ rw (eq-eqb (start .args .mark) 0x53 (omega arith), ne-eqb (start .args .second) 0x54 (λ e. omega (arith, c .before .if2 .taken)))
+    let a = start .args in
+    ap Refused (c .no-mark2 .ensures)
+    ∙ sym (unmarked (a .at) (a .mark) (a .second) (a .low + 65536 * a .high) (a .symbol) (rw (eq-eqb (a .mark) 0x53 (omega arith), ne-eqb (a .second) 0x54 (λ e. omega (arith, c .before .if2 .taken)))))
 
 symbol-above-at-requires : tie.Need-symbol-above-at-requires
 symbol-above-at-requires c κs = search needs

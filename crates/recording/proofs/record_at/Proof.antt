@@ -1,13 +1,22 @@
 -- `record_at` makes the definition's tests of the offset, and judges the eight bytes there.
 use borrow.Author.Needs.{needs}
 use borrow.Author.Tests.{eq-eqb, ne-eqb, le-leb, lt-leb}
-use mathlib.Core.Path.{ap, _∙_}
-use Prim.Native.Nat.{_+_}
+use mathlib.Core.Path.{_≡_, sym, ap, _∙_}
+use mathlib.Core.List.{List}
+use Prim.Native.Nat.{ℕ, _+_, _-_, _≤_, _<_}
 use native.Mathlib.Omega.{arith}
+use denote.Ref.{now}
+use lib.ListN.{length}
+use Rattle.datagram.specs.Refusals.{cutShort}
 use Rattle.recording.specs.Record.{recordOf}
 use Rattle.recording.specs.declared.Record.the-variants.{Refused}
 use Rattle.recording.proofs.record_at.Statement.{statement}
 use Rattle.recording.proofs.record_at.Tie as tie
+
+-- 11 comes before 10, whatever the bytes
+cut : (s : List ℕ) (at : ℕ) → at ≤ length s → (length s ≡ at → ⊥) → length s - at < 8 → recordOf s at ≡ Refused (cutShort at)
+unfolding recordOf
+cut s at within inside few = rw (le-leb at (length s) within, ne-eqb (length s) at inside, lt-leb 8 (length s - at) few)
 
 cut-short-requires : tie.Need-cut-short-requires
 cut-short-requires c κs = search needs
@@ -24,8 +33,10 @@ cut-short-requires-2 : tie.Need-cut-short-requires-2
 cut-short-requires-2 c κs = search needs
 
 returns-3 : tie.Need-returns-3
-unfolding recordOf
-returns-3 c = ap Refused (c .cut-short2 .ensures) ∙ rw (le-leb _ _ (c .before .before .before .if1 .left), ne-eqb _ _ (c .before .before .if2 .left), lt-leb _ _ (c .before .if3 .taken))
+returns-3 c =
+    let a = c .before .before .before .before .before .args in
+    ap Refused (c .cut-short2 .ensures)
+    ∙ sym (cut (now (a .bytes)) (a .at) (c .before .before .before .if1 .left) (c .before .before .if2 .left) (c .before .if3 .taken))
 
 shared-slice-read-judged : tie.Need-shared-slice-read-judged
 shared-slice-read-judged c = search needs
