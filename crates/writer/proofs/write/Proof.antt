@@ -20,7 +20,7 @@ use Rattle.writer.proofs.write.Tie as tie
 -- 7 comes first, whatever the room
 refused : (m : Message) (buffer : List ℕ) (at : ℕ) (r : Refusal) → rangeOf m ≡ verdict.Refused r → writeOf m buffer at ≡ outcome (Refused r) buffer
 unfolding writeOf
-refused m buffer at r e = rw e
+refused m buffer at r e = ap (λ (v : Verdict). ruledWrite v (bytesOf m) buffer at) e
 
 range-of-requires : tie.Need-range-of-requires
 range-of-requires c κs = search needs

@@ -1,15 +1,16 @@
 -- `read` places what the reader gives; what is read is in range.
 use Prim.Native.Nat.{ℕ}
-use mathlib.Core.Path.{_≡_, refl, sym, _∙_}
+use mathlib.Core.Path.{_≡_, refl, sym, ap, _∙_}
 use mathlib.Core.List.{List}
 use denote.Ref.{now}
 use Rattle.datagram.specs.declared.Refusal.{Refusal}
+use Rattle.message.specs.declared.Reading.{Reading}
 use Rattle.message.specs.declared.Reading.the-variants.{Refused}
 use Rattle.message.specs.Reading.{readOf}
 use Rattle.roundtrip.proofs.RoundTrip.{round-trip}
 use Rattle.named.proofs.Signs.{handed}
 use Rattle.seatalk.specs.Told.{told, codeOf}
-use Rattle.seatalk.specs.Read.{readCall}
+use Rattle.seatalk.specs.Read.{readTold, readCall}
 use borrow.Author.Needs.{needs}
 use Rattle.seatalk.proofs.read.read.Statement.{statement}
 use Rattle.seatalk.proofs.read.read.Tie as tie
@@ -17,7 +18,7 @@ use Rattle.seatalk.proofs.read.read.Tie as tie
 -- the reader's refusal comes first, whatever the room
 unread : (bytes result : List ℕ) (r : Refusal) → readOf bytes ≡ Refused r → readCall bytes result ≡ told (codeOf r) result
 unfolding readCall
-unread bytes result r e = rw e
+unread bytes result r e = ap (λ (v : Reading). readTold v result) e
 
 read-requires : tie.Need-read-requires
 read-requires c κs = search needs
