@@ -9,9 +9,10 @@ use borrow.Author.Tests.{leb-true, leb-false, eqb-true, eqb-false, le-leb, lt-le
 use lib.Dec.{leb, eqb}
 use lib.ListN.{length, getD, drop, length-append, length-drop, List·getD-append}
 use lib.Seq.{getD-drop}
+use Rattle.datagram.specs.Refusals.{symbolAboveAt, noMark}
 use Rattle.recording.specs.declared.Record.{Record}
 use Rattle.recording.specs.declared.Record.the-variants as record-case
-use Rattle.recording.specs.Record.{recordOf, refusedAt, judgedRecord, byteOf, timeAt, symbolAt}
+use Rattle.recording.specs.Record.{recordOf, judgedRecord, byteOf, timeAt, symbolAt}
 
 whole-record : (s : List ℕ) (at : ℕ) → at + 8 ≤ length s
     → recordOf s at ≡ judgedRecord at (getD s at 0) (byteOf s at 1) (timeAt s at) (symbolAt s at)
@@ -20,7 +21,7 @@ whole-record s at h =
     rw (le-leb at (length s) (omega arith), ne-eqb (length s) at (λ e. omega arith), le-leb 8 (length s - at) (omega arith))
 
 not-the-end : (at time symbol : ℕ) (marked low : Bool)
-    → cond marked (cond low (record-case.Heard time symbol) (refusedAt 1 at)) (refusedAt 10 at) ≡ record-case.End → _≡_ {A = ℕ} 0 1
+    → cond marked (cond low (record-case.Heard time symbol) (record-case.Refused (symbolAboveAt at))) (record-case.Refused (noMark at)) ≡ record-case.End → _≡_ {A = ℕ} 0 1
 not-the-end at time symbol true true e = cc
 not-the-end at time symbol true false e = cc
 not-the-end at time symbol false low e = cc

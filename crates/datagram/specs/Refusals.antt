@@ -1,9 +1,13 @@
--- The refusals of document 01 by name. Each has its number, and the place 0 outside the recording reader.
+-- The refusals of document 01 by name, in its words; each number stands here once. The place is the record's offset for a
+-- refusal of the recording reader and 0 elsewhere.
 use Prim.Native.Nat.{ℕ}
 use Rattle.datagram.specs.declared.Refusal.{Refusal}
 
+abbrev pub refusalAt : ℕ → ℕ → Refusal
+refusalAt n place = record { number = n; place = place }
+
 abbrev pub refusal : ℕ → Refusal
-refusal n = record { number = n; place = 0 }
+refusal n = refusalAt n 0
 
 -- a symbol is above 511
 abbrev pub symbolAbove : Refusal
@@ -29,7 +33,7 @@ wrongLength = refusal 5
 abbrev pub badRepeat : Refusal
 badRepeat = refusal 6
 
--- the named field of a message, counted from 1 in table order, is out of range
+-- a field is out of range; fields are counted from 1 in table order
 abbrev pub outOfRange : ℕ → Refusal
 outOfRange field = refusal 7
 
@@ -40,3 +44,15 @@ noRoom = refusal 8
 -- a wait or an attempt limit is out of range
 abbrev pub badWaitOrLimit : Refusal
 badWaitOrLimit = refusal 9
+
+-- a record lacks its mark
+abbrev pub noMark : ℕ → Refusal
+noMark = refusalAt 10
+
+-- a record is cut short
+abbrev pub cutShort : ℕ → Refusal
+cutShort = refusalAt 11
+
+-- a symbol of a record is above 511
+abbrev pub symbolAboveAt : ℕ → Refusal
+symbolAboveAt = refusalAt (symbolAbove .number)

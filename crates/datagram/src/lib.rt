@@ -1,56 +1,17 @@
 // Symbols, whole datagrams and refusals: the words that every other layer shares.
+pub mod refusals;
+
 ghost use mathlib.Core.Path.{_≡_};
 ghost use Prim.Native.Nat.{_+_, _≤_, _<_};
 ghost use lib.ListN.{length, drop};
 ghost use Rattle.datagram.specs.Padding.{allZero, wordFrom};
 ghost use Rattle.datagram.specs.Whole.{whole};
 
-// A refusal's number and its place, as document 01 lists them.
+// A refusal's number and its place; module `refusals` has them all.
 pub struct Refusal {
     pub number: u8,
     pub place: u64,
 }
-
-// The refusals of document 01 by name.
-pub const SYMBOL_ABOVE: Refusal = Refusal {
-    number: 1,
-    place: 0,
-};
-
-pub const NOT_SOUND: Refusal = Refusal {
-    number: 2,
-    place: 0,
-};
-
-pub const NOT_WHOLE: Refusal = Refusal {
-    number: 3,
-    place: 0,
-};
-
-pub const UNKNOWN_COMMAND: Refusal = Refusal {
-    number: 4,
-    place: 0,
-};
-
-pub const WRONG_LENGTH: Refusal = Refusal {
-    number: 5,
-    place: 0,
-};
-
-pub const BAD_REPEAT: Refusal = Refusal {
-    number: 6,
-    place: 0,
-};
-
-pub const NO_ROOM: Refusal = Refusal {
-    number: 8,
-    place: 0,
-};
-
-pub const BAD_WAIT_OR_LIMIT: Refusal = Refusal {
-    number: 9,
-    place: 0,
-};
 
 // Whether the bytes are one whole datagram.
 pub fn is_whole(bytes: &[u8]) -> bool

@@ -13,19 +13,19 @@ use Rattle.message.specs.Range.{rangeOf}
 use Rattle.message.specs.Reading.{readOf, readKind}
 use Rattle.message.specs.Table.{findOf, kinds}
 use Rattle.examples.specs.declared.Row.{Row}
-use Rattle.examples.specs.Examples.{Outcome, outcomeOf, refuses, Example, examples, Examples}
+use Rattle.examples.specs.Examples.{Outcome, outcomeOf, Example, examples, Examples}
 use Rattle.examples.specs.Rows.{refusalIn, rowOf, past, exampleAt}
 
 pub claim : Examples
 unfolding examples commandOf fieldsOf readOf readKind rangeOf findOf kinds whole
 claim = refl
 
--- the claim at each place; past the last, no bytes are refused 3
+-- the claim at each place; past the last, no bytes are not a whole datagram
 right : (i : ℕ) → outcomeOf (readOf (exampleAt i .bytes)) ≡ exampleAt i .expected
 unfolding exampleAt readOf whole
 right i =
     sym (List·getD-map (λ (e : Example). outcomeOf (readOf (e .bytes))) examples i past)
-    ∙ ap (λ (l : List Outcome). getD l i (refuses 3)) claim ∙ List·getD-map (λ (e : Example). e .expected) examples i past
+    ∙ ap (λ (l : List Outcome). getD l i (past .expected)) claim ∙ List·getD-map (λ (e : Example). e .expected) examples i past
 
 rows : (es : List Example) (i : ℕ) (d : Row) (e : Example) → i < length es → getD (map rowOf es) i d ≡ rowOf (getD es i e)
 rows [] i d e h = absurd (not-suc-le-zero h)

@@ -3,6 +3,7 @@ use Prim.Native.Nat.{ℕ}
 use mathlib.Core.List.{[]}
 use lib.ListN.{length, getD}
 use Rattle.datagram.specs.Padding.{padTo}
+use Rattle.datagram.specs.Refusals.{notWhole}
 use Rattle.examples.specs.declared.Row.{Row}
 use Rattle.examples.specs.Examples.{Outcome, reads, refuses, Example, examples}
 
@@ -16,7 +17,7 @@ rowOf e = record { bytes = padTo 5 (e .bytes); count = length (e .bytes); refusa
 
 -- past the last, no bytes, which are not a whole datagram
 abbrev pub past : Example
-past = record { bytes = []; expected = refuses 3 }
+past = record { bytes = []; expected = refuses (notWhole .number) }
 
 -- example i, counted from 0
 unfoldable pub exampleAt : ℕ → Example

@@ -1,7 +1,7 @@
 // The listener: from 9-bit bus symbols to whole datagrams, one symbol a call.
-use datagram::NOT_SOUND;
 use datagram::Refusal;
-use datagram::SYMBOL_ABOVE;
+use datagram::refusals::NOT_SOUND;
+use datagram::refusals::SYMBOL_ABOVE;
 ghost use mathlib.Core.Path.{_≡_};
 ghost use mathlib.Core.Bool.{true};
 ghost use mathlib.Core.List.{[], _∷_, _++_};

@@ -1,8 +1,8 @@
 // What a datagram says, as text: the name and the fields of its message, or what refused it.
 use crate::put_refused;
 use crate::shapes;
-use datagram::NOT_WHOLE;
-use datagram::UNKNOWN_COMMAND;
+use datagram::refusals::NOT_WHOLE;
+use datagram::refusals::UNKNOWN_COMMAND;
 use message::Kind;
 use message::Lookup;
 use message::Message;

@@ -1,20 +1,9 @@
 // The range of each field: the verdict on a message.
 use crate::Message;
 use crate::Verdict;
-use datagram::Refusal;
+use datagram::refusals::out_of_range;
 ghost use mathlib.Core.Path.{_≡_};
-ghost use Rattle.datagram.specs.Refusals.{outOfRange};
 ghost use Rattle.message.specs.Range.{rangeOf, atMost, fromOne, within, andThen};
-
-// The refusal of a field out of range; fields are counted from 1 in table order.
-pub fn out_of_range(field: u8) -> Refusal
-    ensures { λ r. ⌜ r ≡ outOfRange field ⌝ }
-{
-    Refusal {
-        number: 7,
-        place: 0,
-    }
-}
 
 fn at_most(field: u8, limit: u32, n: u32) -> Verdict
     ensures { λ r. ⌜ r ≡ atMost field limit n ⌝ }

@@ -3,13 +3,13 @@ mod kinds;
 mod numbers;
 
 use datagram::Refusal;
-use datagram::UNKNOWN_COMMAND;
-use datagram::WRONG_LENGTH;
+use datagram::refusals::UNKNOWN_COMMAND;
+use datagram::refusals::WRONG_LENGTH;
+use datagram::refusals::out_of_range;
 use message::Kind;
 use message::Lookup;
 use message::Message;
 use message::Verdict;
-use message::range::out_of_range;
 use message::range::range_of;
 ghost use mathlib.Core.Path.{_≡_};
 ghost use mathlib.Core.Bool.{cond};
@@ -53,10 +53,10 @@ fn name_as(found: Lookup, fields: &[u8]) -> Naming
 }
 
 // How many bytes to read the fields from: all where no flag is bad, else those of the fields before flag k.
-fn reach(length: usize, k: u8) -> usize
-    ensures { λ r. ⌜ r ≡ cond (eqb k 0) length (4 * (k - 1)) ⌝ }
+fn reach(size: usize, k: u8) -> usize
+    ensures { λ r. ⌜ r ≡ cond (eqb k 0) size (4 * (k - 1)) ⌝ }
 {
-    if k == 0 { length } else { 4 * (k as usize - 1) }
+    if k == 0 { size } else { 4 * (k as usize - 1) }
 }
 
 // Flag k, counted from 1, is bad, or none where k is 0. The fields before it, taken alone, are judged first.

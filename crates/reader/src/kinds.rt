@@ -3,10 +3,10 @@
 use angle::half_angle;
 use angle::turns_right;
 use angle::whole_angle;
-use datagram::BAD_REPEAT;
+use datagram::refusals::BAD_REPEAT;
+use datagram::refusals::out_of_range;
 use message::Message;
 use message::Reading;
-use message::range::out_of_range;
 use number::difference;
 use number::negated_byte;
 use number::signed_byte;

@@ -1,9 +1,9 @@
 // The reader: from the bytes of a datagram to a typed message.
 mod kinds;
 
-use datagram::NOT_WHOLE;
-use datagram::UNKNOWN_COMMAND;
-use datagram::WRONG_LENGTH;
+use datagram::refusals::NOT_WHOLE;
+use datagram::refusals::UNKNOWN_COMMAND;
+use datagram::refusals::WRONG_LENGTH;
 use message::Kind;
 use message::Lookup;
 use message::Reading;

@@ -4,13 +4,10 @@ use mathlib.Core.Bool.{_&&_, cond}
 use mathlib.Core.List.{List}
 use lib.Dec.{leb, eqb}
 use lib.ListN.{length, getD}
+use Rattle.datagram.specs.Refusals.{noMark, cutShort, symbolAboveAt}
 use Rattle.number.specs.Word.{word}
 use Rattle.recording.specs.declared.Record.{Record}
 use Rattle.recording.specs.declared.Record.the-variants.{Heard, End, Refused}
-
--- the place of a refusal is the record's offset
-abbrev pub refusedAt : ℕ → ℕ → Record
-refusedAt number at = Refused (record { number = number; place = at })
 
 -- byte i of the record at an offset
 abbrev pub byteOf : List ℕ → ℕ → ℕ → ℕ
@@ -25,12 +22,12 @@ symbolAt s at = word (byteOf s at 6) (byteOf s at 7)
 -- the mark, then the symbol
 abbrev pub judgedRecord : ℕ → ℕ → ℕ → ℕ → ℕ → Record
 judgedRecord at mark second time symbol =
-    cond (eqb mark 0x53 && eqb second 0x54) (cond (leb symbol 511) (Heard time symbol) (refusedAt 1 at)) (refusedAt 10 at)
+    cond (eqb mark 0x53 && eqb second 0x54) (cond (leb symbol 511) (Heard time symbol) (Refused (symbolAboveAt at))) (Refused (noMark at))
 
 -- an offset past the end, or 1 to 7 bytes left, is refusal 11; the length itself is the end
 unfoldable pub recordOf : List ℕ → ℕ → Record
 recordOf s at =
     cond (leb at (length s))
     (cond (eqb (length s) at) End
-    (cond (leb 8 (length s - at)) (judgedRecord at (getD s at 0) (byteOf s at 1) (timeAt s at) (symbolAt s at)) (refusedAt 11 at)))
-    (refusedAt 11 at)
+    (cond (leb 8 (length s - at)) (judgedRecord at (getD s at 0) (byteOf s at 1) (timeAt s at) (symbolAt s at)) (Refused (cutShort at))))
+    (Refused (cutShort at))

@@ -1,9 +1,12 @@
 // The recording reader: records of eight bytes, a mark, a time and a symbol.
 use datagram::Refusal;
+use datagram::refusals::cut_short;
+use datagram::refusals::no_mark;
+use datagram::refusals::symbol_above_at;
 use number::word_of;
 ghost use mathlib.Core.Path.{_≡_};
 ghost use Prim.Native.Nat.{_+_, _*_, _<_};
-ghost use Rattle.recording.specs.Record.{recordOf, judgedRecord, refusedAt};
+ghost use Rattle.recording.specs.Record.{recordOf, judgedRecord};
 
 // What stands at an offset of a recording.
 pub enum Record {
@@ -18,13 +21,13 @@ pub fn record_at(bytes: &[u8], at: usize) -> Record
 {
     let n = bytes.len();
     if n < at {
-        return refused(11, at);
+        return Record::Refused(cut_short(at));
     }
     if n == at {
         return Record::End;
     }
     if n - at < 8 {
-        return refused(11, at);
+        return Record::Refused(cut_short(at));
     }
     judged(
         at,
@@ -42,25 +45,16 @@ fn judged(at: usize, mark: u8, second: u8, low: u32, high: u32, symbol: u32) -> 
     ensures { λ r. ⌜ r ≡ judgedRecord at mark second (low + 65536 * high) symbol ⌝ }
 {
     if mark != 0x53 {
-        return refused(10, at);
+        return Record::Refused(no_mark(at));
     }
     if second != 0x54 {
-        return refused(10, at);
+        return Record::Refused(no_mark(at));
     }
     if 511 < symbol {
-        return refused(1, at);
+        return Record::Refused(symbol_above_at(at));
     }
     Record::Heard {
         time: low + 65536 * high,
         symbol: symbol as u16,
     }
-}
-
-fn refused(number: u8, at: usize) -> Record
-    ensures { λ r. ⌜ r ≡ refusedAt number at ⌝ }
-{
-    Record::Refused(Refusal {
-        number: number,
-        place: at as u64,
-    })
 }

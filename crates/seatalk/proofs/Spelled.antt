@@ -16,7 +16,7 @@ use Rattle.writer.specs.declared.Written.the-variants.{Wrote, Refused}
 use Rattle.writer.specs.Writing.{Outcome, outcome, writeOf}
 use Rattle.roundtrip.proofs.RoundTrip.{round-trip}
 use Rattle.named.proofs.Each.{each-length}
-use Rattle.seatalk.specs.Told.{refused}
+use Rattle.seatalk.specs.Told.{told, codeOf}
 use Rattle.seatalk.specs.Write.{symbolBytes, symbolsBytes, writeTold}
 
 abbrev pub room : List ℕ
@@ -39,16 +39,16 @@ module _ (m : Message) where
   refusing q i = rw i
 
   -- the writer refused: not for room, so by the verdict
-  pub told-refused : (r : Refusal) (buffer result : List ℕ) → outcome (Refused r) buffer ≡ writeOf m room 0 → refused r result ≡ writeTold (rangeOf m) m result
+  pub told-refused : (r : Refusal) (buffer result : List ℕ) → outcome (Refused r) buffer ≡ writeOf m room 0 → told (codeOf r) result ≡ writeTold (rangeOf m) m result
   told-refused r buffer result e = go (rangeOf m) refl
     where
-      go : (v : Verdict) → rangeOf m ≡ v → refused r result ≡ writeTold v m result
+      go : (v : Verdict) → rangeOf m ≡ v → told (codeOf r) result ≡ writeTold v m result
       go verdict.InRange i =
           let other : Refused r ≡ Wrote (length (bytesOf m)) = ap (λ (o : Outcome). o .answer) (e ∙ stored i) in
           let z : _≡_ {A = ℕ} 0 1 = cc in absurd (omega arith)
       go (verdict.Refused q) i =
           let same : Refused r ≡ Refused q = ap (λ (o : Outcome). o .answer) e ∙ refusing q i in
-          let equal : r ≡ q = cc in ap (λ (x : Refusal). refused x result) equal
+          let equal : r ≡ q = cc in ap (λ (x : Refusal). told (codeOf x) result) equal
 
   -- the writer wrote n symbols
   pub record Spelled (n : ℕ) (buffer : List ℕ) : Type 0 where

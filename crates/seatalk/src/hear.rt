@@ -1,10 +1,10 @@
 // One symbol heard, with the listener's state in lent bytes.
 use crate::code_of;
 use crate::put;
-use datagram::NO_ROOM;
-use datagram::NOT_SOUND;
 use datagram::Refusal;
-use datagram::SYMBOL_ABOVE;
+use datagram::refusals::NO_ROOM;
+use datagram::refusals::NOT_SOUND;
+use datagram::refusals::SYMBOL_ABOVE;
 use listener::Answer;
 use listener::Heard;
 use listener::Listener;

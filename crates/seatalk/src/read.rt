@@ -1,7 +1,7 @@
 // Any bytes read as the fields of a message.
 use crate::code_of;
 use crate::put_word;
-use datagram::NO_ROOM;
+use datagram::refusals::NO_ROOM;
 use fields::Fields;
 use message::Message;
 use message::Reading;

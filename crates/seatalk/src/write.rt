@@ -1,6 +1,6 @@
 // A command and its fields written as the symbols of a message.
 use crate::code_of;
-use datagram::NO_ROOM;
+use datagram::refusals::NO_ROOM;
 use message::Message;
 use named::Naming;
 use writer::Written;

@@ -3,7 +3,7 @@ use Prim.Native.Nat.{ℕ}
 use mathlib.Core.Bool.{Bool, _&&_}
 use mathlib.Core.List.{List}
 use lib.Dec.{leb, ltb, eqb}
-use lib.ListN.{length, getD, take, drop}
+use lib.ListN.{getD, take, drop}
 use Rattle.datagram.specs.Whole.{declared, whole, symbols}
 use Rattle.datagram.specs.Padding.{allZero}
 use Rattle.sender.specs.declared.Phase.{Phase}
@@ -24,10 +24,10 @@ symbolAt s place = getD (symbols (bytesOf s)) place 0
 
 -- the place and the failures as each phase has them
 abbrev pub phaseSound : Phase → ℕ → ℕ → ℕ → ℕ → Bool
-phaseSound Waiting place length failures limit = eqb place 0 && ltb failures limit
-phaseSound Awaiting place length failures limit = ltb place length && ltb failures limit
-phaseSound Done place length failures limit = eqb place length && ltb failures limit
-phaseSound GaveUp place length failures limit = eqb place 0 && eqb failures limit
+phaseSound Waiting place size failures limit = eqb place 0 && ltb failures limit
+phaseSound Awaiting place size failures limit = ltb place size && ltb failures limit
+phaseSound Done place size failures limit = eqb place size && ltb failures limit
+phaseSound GaveUp place size failures limit = eqb place 0 && eqb failures limit
 
 -- the datagram is whole, the bytes past it are 0, the wait is 10..255, the limit 1..50, and the phase is as it should be
 unfoldable pub sound : Sender → Bool

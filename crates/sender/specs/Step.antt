@@ -53,9 +53,9 @@ abbrev pub movedTo : Sender → Phase → ℕ → ℕ → Sender
 movedTo s phase place failures =
     record { phase = phase; datagram = s .datagram; place = place; wait = s .wait; limit = s .limit; failures = failures }
 
--- now minus last activity, modulo 2^32
+-- the time now minus last activity, modulo 2^32
 abbrev pub elapsed : ℕ → ℕ → ℕ
-elapsed now last = (now + 2 ^ 32 - last) % 2 ^ 32
+elapsed time last = (time + 2 ^ 32 - last) % 2 ^ 32
 
 -- a poll by the phase: only a waiting sender whose wait is over changes
 abbrev pub polled : Phase → Sender → ℕ → Said
@@ -68,7 +68,7 @@ polled phase.GaveUp s silence = outcome GaveUp s
 
 -- refusal 2, or the poll
 unfoldable pub pollOf : Sender → ℕ → ℕ → Said
-pollOf s now last = cond (sound s) (polled (s .phase) s (elapsed now last)) (outcome (Refused notSound) s)
+pollOf s time last = cond (sound s) (polled (s .phase) s (elapsed time last)) (outcome (Refused notSound) s)
 
 -- the awaited symbol was heard: the next is sent, or the datagram is done
 abbrev pub heardRight : Sender → Said

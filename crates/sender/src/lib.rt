@@ -1,9 +1,9 @@
 // The sender: offers a datagram to the bus, symbol by symbol, and checks each against its own echo.
-use datagram::BAD_WAIT_OR_LIMIT;
-use datagram::NOT_SOUND;
-use datagram::NOT_WHOLE;
 use datagram::Refusal;
-use datagram::SYMBOL_ABOVE;
+use datagram::refusals::BAD_WAIT_OR_LIMIT;
+use datagram::refusals::NOT_SOUND;
+use datagram::refusals::NOT_WHOLE;
+use datagram::refusals::SYMBOL_ABOVE;
 ghost use mathlib.Core.Path.{_≡_};
 ghost use Prim.Native.Nat.{_<_, _≤_};
 ghost use lib.ListN.{length};
@@ -101,16 +101,16 @@ pub fn offer(bytes: &[u8], wait: u32, limit: u32) -> Offered
     }
 }
 
-// Asks what to do, at the time `now` with the bus last active at `last`, both on a bit-time counter that wraps.
-pub fn poll(s: Sender, now: u32, last: u32) -> Said
-    ensures { λ r. ⌜ r ≡ pollOf s now last ⌝ }
+// Asks what to do, at this time with the bus last active at `last`, both on a bit-time counter that wraps.
+pub fn poll(s: Sender, time: u32, last: u32) -> Said
+    ensures { λ r. ⌜ r ≡ pollOf s time last ⌝ }
 {
     if !is_sound(s) {
         return answered(Answer::Refused(NOT_SOUND), s);
     }
     let phase = s.phase;
     match phase {
-        Phase::Waiting => started(s, std::num::wrapping_sub_u32(now, last)),
+        Phase::Waiting => started(s, std::num::wrapping_sub_u32(time, last)),
         Phase::Awaiting => answered(Answer::Listening, s),
         Phase::Done => answered(Answer::Done, s),
         Phase::GaveUp => answered(Answer::GaveUp, s),
@@ -163,8 +163,8 @@ pub fn is_sound(s: Sender) -> bool
     phase_sound(phase, s.place, n, s.failures, s.limit)
 }
 
-fn phase_sound(phase: Phase, place: u8, length: u8, failures: u8, limit: u8) -> bool
-    ensures { λ r. ⌜ r ≡ phaseSound phase place length failures limit ⌝ }
+fn phase_sound(phase: Phase, place: u8, size: u8, failures: u8, limit: u8) -> bool
+    ensures { λ r. ⌜ r ≡ phaseSound phase place size failures limit ⌝ }
 {
     match phase {
         Phase::Waiting => {
@@ -174,13 +174,13 @@ fn phase_sound(phase: Phase, place: u8, length: u8, failures: u8, limit: u8) -> 
             false
         }
         Phase::Awaiting => {
-            if place < length {
+            if place < size {
                 return failures < limit;
             }
             false
         }
         Phase::Done => {
-            if place == length {
+            if place == size {
                 return failures < limit;
             }
             false

@@ -32,21 +32,21 @@ pub data Move (s : Sender) (c : Call) : Said → Type 0 where
   gives-up : sound s ≡ true → s .phase ≡ phase.Awaiting → s .failures + 1 ≡ s .limit
       → Move s c (outcome GaveUp (movedTo s phase.GaveUp 0 (s .failures + 1)))
 
-module _ (s : Sender) (now last : ℕ) where
+module _ (s : Sender) (time last : ℕ) where
   poll-waiting : (over : Bool) → sound s ≡ true → s .phase ≡ phase.Waiting
-      → Move s (poll now last)
-      (cond over (outcome (Send (symbolAt s 0)) (movedTo s phase.Awaiting 0 (s .failures))) (outcome (Wait (s .wait - elapsed now last)) s))
+      → Move s (poll time last)
+      (cond over (outcome (Send (symbolAt s 0)) (movedTo s phase.Awaiting 0 (s .failures))) (outcome (Wait (s .wait - elapsed time last)) s))
   poll-waiting true h e = starts h e
   poll-waiting false h e = stays (Wait _) (λ later. refl) (λ h e cs. refl)
 
-  poll-phase : (p : Phase) → sound s ≡ true → s .phase ≡ p → Move s (poll now last) (polled p s (elapsed now last))
-  poll-phase phase.Waiting h e = poll-waiting (leb (s .wait) (elapsed now last)) h e
+  poll-phase : (p : Phase) → sound s ≡ true → s .phase ≡ p → Move s (poll time last) (polled p s (elapsed time last))
+  poll-phase phase.Waiting h e = poll-waiting (leb (s .wait) (elapsed time last)) h e
   poll-phase phase.Awaiting h e = stays Listening (λ later. refl) (λ h e cs. refl)
   poll-phase phase.Done h e = stays Done (λ later. refl) (λ h e cs. refl)
   poll-phase phase.GaveUp h e = stays GaveUp (λ later. refl) (λ h e cs. refl)
 
   poll-moves : (b : Bool) → sound s ≡ b
-      → Move s (poll now last) (cond b (polled (s .phase) s (elapsed now last)) (outcome (Refused notSound) s))
+      → Move s (poll time last) (cond b (polled (s .phase) s (elapsed time last)) (outcome (Refused notSound) s))
   poll-moves true h = poll-phase (s .phase) h refl
   poll-moves false h = stays (Refused notSound) (λ later. refl) (λ h e cs. refl)
 
@@ -89,5 +89,5 @@ echo-any s symbol false t = echo-moves s symbol (sound s) refl
 
 pub move : (s : Sender) (c : Call) → Move s c (called s c)
 unfolding pollOf echoOf
-move s (poll now last) = poll-moves s now last (sound s) refl
+move s (poll time last) = poll-moves s time last (sound s) refl
 move s (echo symbol) = echo-any s symbol (ltb 511 symbol) refl

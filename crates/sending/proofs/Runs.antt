@@ -20,7 +20,7 @@ abbrev Ends : Sender → List Call → Type 0
 Ends s calls = sound s ≡ true → s .phase ≡ phase.Awaiting → lengthOf s ≤ s .place + echoes calls → someEnds (answers s calls) ≡ true
 
 one-echo : (c : Call) (cs : List Call) → echoes (c ∷ cs) ≤ suc (echoes cs)
-one-echo (poll now last) cs = omega arith
+one-echo (poll time last) cs = omega arith
 one-echo (echo symbol) cs = one-of-two (ltb 511 symbol) (omega arith) (omega arith)
 
 move-ends : {s : Sender} {c : Call} {said : Said} → Move s c said → (cs : List Call) → Ends (said .sender) cs

@@ -27,13 +27,13 @@ pub set-back : elapsed 100 200 ≡ 4294967196
 set-back = refl
 
 -- a clock set back, by at most 2^32 - 255, gives at least the longest wait
-pub set-back-long : (now last : ℕ) → now < last → last - now ≤ 4294967041 → 255 ≤ elapsed now last
-set-back-long now last h k = omega arith
+pub set-back-long : (time last : ℕ) → time < last → last - time ≤ 4294967041 → 255 ≤ elapsed time last
+set-back-long time last h k = omega arith
 
 -- so a sound sender that waits starts
-pub set-back-starts : (s : Sender) (now last : ℕ) → sound s ≡ true → now < last → last - now ≤ 4294967041
-    → polled phase.Waiting s (elapsed now last) ≡ outcome (Send (symbolAt s 0)) (movedTo s phase.Awaiting 0 (s .failures))
-set-back-starts s now last h l k =
+pub set-back-starts : (s : Sender) (time last : ℕ) → sound s ≡ true → time < last → last - time ≤ 4294967041
+    → polled phase.Waiting s (elapsed time last) ≡ outcome (Send (symbolAt s 0)) (movedTo s phase.Awaiting 0 (s .failures))
+set-back-starts s time last h l k =
     let fits = facts s h .wait-fits in
-    let long = set-back-long now last l k in
-    rw (le-leb (s .wait) (elapsed now last) (omega arith))
+    let long = set-back-long time last l k in
+    rw (le-leb (s .wait) (elapsed time last) (omega arith))

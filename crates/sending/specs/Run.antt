@@ -3,7 +3,6 @@ use Prim.Native.Nat.{ℕ, suc, _+_, _-_}
 use mathlib.Core.Bool.{Bool, true, false, _&&_, _||_, cond}
 use mathlib.Core.List.{List, [], _∷_}
 use lib.Dec.{leb, ltb}
-use lib.ListN.{length}
 use Rattle.sender.specs.declared.Phase.{Phase}
 use Rattle.sender.specs.declared.Phase.the-variants as phase
 use Rattle.sender.specs.declared.Sender.{Sender}
@@ -18,7 +17,7 @@ pub data Call : Type 0 where
   echo : ℕ → Call
 
 abbrev pub called : Sender → Call → Said
-called s (poll now last) = pollOf s now last
+called s (poll time last) = pollOf s time last
 called s (echo symbol) = echoOf s symbol
 
 abbrev pub answers : Sender → List Call → List Answer
@@ -91,15 +90,15 @@ someFails (a ∷ later) = fails a || someFails later
 -- the echoes among the calls that are symbols, 0..511
 abbrev pub echoes : List Call → ℕ
 echoes [] = 0
-echoes (poll now last ∷ cs) = echoes cs
+echoes (poll time last ∷ cs) = echoes cs
 echoes (echo symbol ∷ cs) = cond (ltb 511 symbol) (echoes cs) (suc (echoes cs))
 
 -- how many symbols a sender in this phase has sent since it last waited
 abbrev pub sentBy : Phase → ℕ → ℕ → ℕ
-sentBy phase.Waiting place length = 0
-sentBy phase.Awaiting place length = place + 1
-sentBy phase.Done place length = length
-sentBy phase.GaveUp place length = 0
+sentBy phase.Waiting place size = 0
+sentBy phase.Awaiting place size = place + 1
+sentBy phase.Done place size = size
+sentBy phase.GaveUp place size = 0
 
 -- how many more attempts a sender in this phase can start
 abbrev pub startsLeft : Phase → ℕ → ℕ → ℕ

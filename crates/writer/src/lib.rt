@@ -2,8 +2,8 @@
 mod kinds;
 mod store;
 
-use datagram::NO_ROOM;
 use datagram::Refusal;
+use datagram::refusals::NO_ROOM;
 use message::Message;
 use message::Verdict;
 ghost use mathlib.Core.Path.{_≡_};

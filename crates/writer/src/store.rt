@@ -1,6 +1,6 @@
 // Storing a datagram of each length at the front of a lent part: all of its symbols, or none where there is no room.
 use crate::Written;
-use datagram::NO_ROOM;
+use datagram::refusals::NO_ROOM;
 ghost use mathlib.Core.Path.{_≡_};
 ghost use mathlib.Core.List.{[], _∷_};
 ghost use Rattle.writer.specs.Writing.{outcome, storeOf};

@@ -1,42 +1,57 @@
 -- `judged` makes the definition's tests of the mark and the symbol, in that order.
 use borrow.Author.Needs.{needs}
 use borrow.Author.Tests.{eq-eqb, ne-eqb, le-leb, lt-leb}
-use mathlib.Core.Path.{_∙_}
+use Prim.Native.Nat.{ℕ, _+_, _*_}
+use mathlib.Core.Path.{_≡_, sym, ap, _∙_}
+use mathlib.Core.Bool.{false, _&&_}
 use native.Mathlib.Omega.{arith}
+use lib.Dec.{eqb}
+use Rattle.datagram.specs.Refusals.{noMark}
+use Rattle.recording.specs.declared.Record.the-variants.{Refused}
+use Rattle.recording.specs.Record.{judgedRecord}
 use Rattle.recording.proofs.judged.Statement.{statement}
 use Rattle.recording.proofs.judged.Tie as tie
 
-refused-requires : tie.Need-refused-requires
-refused-requires c κs = search needs
+-- 10 comes before 1, whatever the symbol
+unmarked : (at mark second time symbol : ℕ) → eqb mark 0x53 && eqb second 0x54 ≡ false → judgedRecord at mark second time symbol ≡ Refused (noMark at)
+unmarked at mark second time symbol h = rw h
+
+no-mark-requires : tie.Need-no-mark-requires
+no-mark-requires c κs = search needs
 
 returns : tie.Need-returns
-returns c = c .refused .ensures ∙ rw (ne-eqb (c .before .before .args .mark) 0x53 (λ e. omega (arith, c .before .if1 .taken)))
+returns c =
+    let a = c .before .before .args in
+    ap Refused (c .no-mark .ensures)
+    ∙ sym (unmarked (a .at) (a .mark) (a .second) (a .low + 65536 * a .high) (a .symbol) (rw (ne-eqb (a .mark) 0x53 (λ e. omega (arith, c .before .if1 .taken)))))
 
-refused-requires-2 : tie.Need-refused-requires-2
-refused-requires-2 c κs = search needs
+no-mark-requires-2 : tie.Need-no-mark-requires-2
+no-mark-requires-2 c κs = search needs
 
 returns-2 : tie.Need-returns-2
 returns-2 c =
     let start = c .before .before .before in
-    c .refused2 .ensures ∙ rw (eq-eqb (start .args .mark) 0x53 (omega arith), ne-eqb (start .args .second) 0x54 (λ e. omega (arith, c .before .if2 .taken)))
+    let a = start .args in
+    ap Refused (c .no-mark2 .ensures)
+    ∙ sym (unmarked (a .at) (a .mark) (a .second) (a .low + 65536 * a .high) (a .symbol) (rw (eq-eqb (a .mark) 0x53 (omega arith), ne-eqb (a .second) 0x54 (λ e. omega (arith, c .before .if2 .taken)))))
 
-refused-requires-3 : tie.Need-refused-requires-3
-refused-requires-3 c κs = search needs
+symbol-above-at-requires : tie.Need-symbol-above-at-requires
+symbol-above-at-requires c κs = search needs
 
 returns-3 : tie.Need-returns-3
 returns-3 c =
     let start = c .before .before .before .before in
-    c .refused3 .ensures
+    ap Refused (c .symbol-above-at .ensures)
     ∙ rw (eq-eqb (start .args .mark) 0x53 (omega arith), eq-eqb (start .args .second) 0x54 (omega arith), lt-leb (start .args .symbol) 511 (omega arith))
 
-mul-t8 : tie.Need-mul-t8
-mul-t8 c = search needs
+mul-t11 : tie.Need-mul-t11
+mul-t11 c = search needs
 
-add-t9 : tie.Need-add-t9
-add-t9 c = search needs
+add-t12 : tie.Need-add-t12
+add-t12 c = search needs
 
-cast-t10 : tie.Need-cast-t10
-cast-t10 c = search needs
+cast-t13 : tie.Need-cast-t13
+cast-t13 c = search needs
 
 returns-4 : tie.Need-returns-4
 returns-4 c =
@@ -47,13 +62,13 @@ pub judged-spec : {M : Type 1} → statement M
 judged-spec =
     tie.close
     (tie.spec
-    refused-requires
+    no-mark-requires
     returns
-    refused-requires-2
+    no-mark-requires-2
     returns-2
-    refused-requires-3
+    symbol-above-at-requires
     returns-3
-    mul-t8
-    add-t9
-    cast-t10
+    mul-t11
+    add-t12
+    cast-t13
     returns-4)

@@ -1,30 +1,42 @@
 -- `record_at` makes the definition's tests of the offset, and judges the eight bytes there.
 use borrow.Author.Needs.{needs}
 use borrow.Author.Tests.{eq-eqb, ne-eqb, le-leb, lt-leb}
-use mathlib.Core.Path.{_∙_}
-use Prim.Native.Nat.{_+_}
+use mathlib.Core.Path.{_≡_, sym, ap, _∙_}
+use mathlib.Core.List.{List}
+use Prim.Native.Nat.{ℕ, _+_, _-_, _≤_, _<_}
 use native.Mathlib.Omega.{arith}
+use denote.Ref.{now}
+use lib.ListN.{length}
+use Rattle.datagram.specs.Refusals.{cutShort}
 use Rattle.recording.specs.Record.{recordOf}
+use Rattle.recording.specs.declared.Record.the-variants.{Refused}
 use Rattle.recording.proofs.record_at.Statement.{statement}
 use Rattle.recording.proofs.record_at.Tie as tie
 
-refused-requires : tie.Need-refused-requires
-refused-requires c κs = search needs
+-- 11 comes before 10, whatever the bytes
+cut : (s : List ℕ) (at : ℕ) → at ≤ length s → (length s ≡ at → ⊥) → length s - at < 8 → recordOf s at ≡ Refused (cutShort at)
+unfolding recordOf
+cut s at within inside few = rw (le-leb at (length s) within, ne-eqb (length s) at inside, lt-leb 8 (length s - at) few)
+
+cut-short-requires : tie.Need-cut-short-requires
+cut-short-requires c κs = search needs
 
 returns : tie.Need-returns
 unfolding recordOf
-returns c = c .refused .ensures ∙ rw (lt-leb _ _ (c .before .if1 .taken))
+returns c = ap Refused (c .cut-short .ensures) ∙ rw (lt-leb _ _ (c .before .if1 .taken))
 
 returns-2 : tie.Need-returns-2
 unfolding recordOf
 returns-2 c = rw (le-leb _ _ (c .before .if1 .left), eq-eqb _ _ (c .if2 .taken))
 
-refused-requires-2 : tie.Need-refused-requires-2
-refused-requires-2 c κs = search needs
+cut-short-requires-2 : tie.Need-cut-short-requires-2
+cut-short-requires-2 c κs = search needs
 
 returns-3 : tie.Need-returns-3
-unfolding recordOf
-returns-3 c = c .refused2 .ensures ∙ rw (le-leb _ _ (c .before .before .before .if1 .left), ne-eqb _ _ (c .before .before .if2 .left), lt-leb _ _ (c .before .if3 .taken))
+returns-3 c =
+    let a = c .before .before .before .before .before .args in
+    ap Refused (c .cut-short2 .ensures)
+    ∙ sym (cut (now (a .bytes)) (a .at) (c .before .before .before .if1 .left) (c .before .before .if2 .left) (c .before .if3 .taken))
 
 shared-slice-read-judged : tie.Need-shared-slice-read-judged
 shared-slice-read-judged c = search needs
@@ -101,10 +113,10 @@ pub record-at-spec : {M : Type 1} → statement M
 record-at-spec =
     tie.close
     (tie.spec
-    refused-requires
+    cut-short-requires
     returns
     returns-2
-    refused-requires-2
+    cut-short-requires-2
     returns-3
     shared-slice-read-judged
     add-judged

@@ -1,13 +1,16 @@
 -- `echo` makes the definition's tests in the definition's order; where it awaits an echo, soundness gives what the two answers require.
 use borrow.Author.Needs.{needs}
 use borrow.Author.Tests.{lt-ltb, le-ltb, eq-eqb, ne-eqb, not-true, not-false}
-use Prim.Native.Nat.{_<_}
+use Prim.Native.Nat.{ℕ, _<_}
 use mathlib.Core.Path.{_≡_, sym, ap, _∙_}
 use mathlib.Core.Bool.{true, false}
 use native.Mathlib.Omega.{arith}
+use Rattle.datagram.specs.Refusals.{symbolAbove}
 use Rattle.sender.specs.declared.Phase.{Phase}
+use Rattle.sender.specs.declared.Sender.{Sender}
+use Rattle.sender.specs.declared.Answer.the-variants.{Refused}
 use Rattle.sender.specs.State.{sound, lengthOf, symbolAt}
-use Rattle.sender.specs.Step.{echoOf, echoed}
+use Rattle.sender.specs.Step.{outcome, echoOf, echoed}
 use Rattle.sender.proofs.State.{awaits}
 use Rattle.sender.proofs.echo.Statement.{statement}
 use Rattle.sender.proofs.echo.Tie as tie
@@ -26,12 +29,17 @@ goes-by c p e =
 awaiting : (c : tie.After-enum-told2) → let s = c .before .before .before .before .before .args .s in (s .place < lengthOf s) × (s .failures < s .limit)
 awaiting c = awaits _ (past-sound (c .before .before)) (c .enum-told2 .given .1)
 
+-- 1 comes first, whatever the state
+above : (s : Sender) (symbol : ℕ) → 511 < symbol → echoOf s symbol ≡ outcome (Refused symbolAbove) s
+unfolding echoOf
+above s symbol h = rw (lt-ltb 511 symbol h)
+
 answered-requires : tie.Need-answered-requires
 answered-requires c κs = search needs
 
 returns : tie.Need-returns
 unfolding echoOf
-returns c = c .answered .ensures ∙ rw (lt-ltb 511 (c .before .before .args .symbol) (omega arith))
+returns c = let a = c .before .before .args in c .answered .ensures ∙ sym (above (a .s) (a .symbol) (omega arith))
 
 is-sound-requires : tie.Need-is-sound-requires
 is-sound-requires c κs = search needs

@@ -1,13 +1,15 @@
 -- `offer` makes the definition's tests in the definition's order; a whole datagram has at most 18 bytes, for which there is room.
 use borrow.Author.Needs.{needs}
 use borrow.Author.Tests.{eq-eqb, ne-eqb, lt-leb, le-leb, not-true, not-false}
+use Prim.Native.Nat.{ℕ}
 use mathlib.Core.Path.{_≡_, sym, _∙_}
 use mathlib.Core.Bool.{true, false, _&&_, and-false, cond}
+use mathlib.Core.List.{List}
 use mathlib.Core.Logic.{⊎-elim}
 use native.Mathlib.Omega.{arith}
 use denote.Ref.{now}
 use lib.Dec.{leb}
-use Rattle.datagram.specs.Refusals.{badWaitOrLimit}
+use Rattle.datagram.specs.Refusals.{notWhole, badWaitOrLimit}
 use Rattle.datagram.specs.Whole.{whole}
 use Rattle.datagram.proofs.Whole.{declares}
 use Rattle.sender.specs.declared.Verdict.the-variants.{Accepted}
@@ -26,6 +28,11 @@ decides : (c : tie.Joined2) → let a = c .before .before .before .before .args 
 unfolding offerOf
 decides c = rw (past-whole (c .before), waits-are c)
 
+-- 3 comes first, whatever the wait and the limit
+not-whole : (bytes : List ℕ) (wait limit : ℕ) → whole bytes ≡ false → offerOf bytes wait limit ≡ refusedOffer notWhole
+unfolding offerOf
+not-whole bytes wait limit h = rw h
+
 is-whole-requires : tie.Need-is-whole-requires
 is-whole-requires c κs = search needs
 
@@ -37,7 +44,7 @@ unfolding offerOf
 returns c =
     let a = c .before .before .before .before .args in
     let broken : whole (now (a .bytes)) ≡ false = sym (c .before .before .is-whole .ensures) ∙ not-true _ (c .before .if1 .taken) in
-    c .refused-offer .ensures ∙ rw broken
+    c .refused-offer .ensures ∙ sym (not-whole (now (a .bytes)) (a .wait) (a .limit) broken)
 
 cast-waits : tie.Need-cast-waits
 cast-waits c = search needs

@@ -19,7 +19,7 @@ enum-told-2 c = search needs
 returns-2 : tie.Need-returns-2
 returns-2 c =
     let a = c .before .before .before .args in
-    rw (c .before .enum-told2 .given .1, lt-ltb (a .place) (a .length) (omega arith))
+    rw (c .before .enum-told2 .given .1, lt-ltb (a .place) (a .size) (omega arith))
 
 enum-told-3 : tie.Need-enum-told-3
 enum-told-3 c = search needs
@@ -27,7 +27,7 @@ enum-told-3 c = search needs
 returns-3 : tie.Need-returns-3
 returns-3 c =
     let a = c .before .before .before .args in
-    rw (c .before .enum-told3 .given .1, eq-eqb (a .place) (a .length) (omega arith))
+    rw (c .before .enum-told3 .given .1, eq-eqb (a .place) (a .size) (omega arith))
 
 enum-told-4 : tie.Need-enum-told-4
 enum-told-4 c = search needs
@@ -45,12 +45,12 @@ returns-5 c =
 returns-6 : tie.Need-returns-6
 returns-6 c =
     let a = c .before .before .before .args in
-    rw (c .before .enum-told2 .given .1, le-ltb (a .place) (a .length) (omega arith))
+    rw (c .before .enum-told2 .given .1, le-ltb (a .place) (a .size) (omega arith))
 
 returns-7 : tie.Need-returns-7
 returns-7 c =
     let a = c .before .before .before .args in
-    rw (c .before .enum-told3 .given .1, ne-eqb (a .place) (a .length) (λ e. omega arith))
+    rw (c .before .enum-told3 .given .1, ne-eqb (a .place) (a .size) (λ e. omega arith))
 
 returns-8 : tie.Need-returns-8
 returns-8 c =

@@ -11,12 +11,12 @@ use Rattle.sender.proofs.poll.Statement.{statement}
 use Rattle.sender.proofs.poll.Tie as tie
 
 -- past the refusal it goes by the phase
-goes-by : (c : tie.Else1) (p : Phase) → let a = c .before .before .args in a .s .phase ≡ p → pollOf (a .s) (a .now) (a .last) ≡ polled p (a .s) (elapsed (a .now) (a .last))
+goes-by : (c : tie.Else1) (p : Phase) → let a = c .before .before .args in a .s .phase ≡ p → pollOf (a .s) (a .time) (a .last) ≡ polled p (a .s) (elapsed (a .time) (a .last))
 unfolding pollOf
 goes-by c p e =
     let a = c .before .before .args in
     let is : sound (a .s) ≡ true = sym (c .before .is-sound .ensures) ∙ not-false _ (c .if1 .left) in
-    rw is (ap (λ (q : Phase). polled q (a .s) (elapsed (a .now) (a .last))) e)
+    rw is (ap (λ (q : Phase). polled q (a .s) (elapsed (a .time) (a .last))) e)
 
 is-sound-requires : tie.Need-is-sound-requires
 is-sound-requires c κs = search needs
@@ -61,7 +61,7 @@ returns-2 : tie.Need-returns-2
 returns-2 c =
     let w = c .before .before .before .before in
     let a = w .before .before .args in
-    let since : c .before .wrapping-sub-u32 .result ≡ elapsed (a .now) (a .last) = omega arith in
+    let since : c .before .wrapping-sub-u32 .result ≡ elapsed (a .time) (a .last) = omega arith in
     c .started .ensures ∙ rw since (sym (goes-by w _ (c .before .before .enum-told .given .1)))
 
 returns-3 : tie.Need-returns-3

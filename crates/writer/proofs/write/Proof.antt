@@ -1,14 +1,26 @@
 -- `write` refuses by the verdict, and else lends the part from the place on; what comes back stands after the numbers before it.
 use borrow.Author.Needs.{needs}
 use borrow.Author.Tests.{lt-leb}
-use mathlib.Core.Path.{_∙_, sym, ap}
+use Prim.Native.Nat.{ℕ}
+use mathlib.Core.Path.{_≡_, _∙_, sym, ap}
+use mathlib.Core.List.{List}
 use denote.Ref.{now}
+use Rattle.datagram.specs.declared.Refusal.{Refusal}
+use Rattle.message.specs.declared.Message.{Message}
 use Rattle.message.specs.declared.Verdict.{Verdict}
+use Rattle.message.specs.declared.Verdict.the-variants as verdict
+use Rattle.message.specs.Range.{rangeOf}
 use Rattle.message.specs.Spelling.{bytesOf}
-use Rattle.writer.specs.Writing.{writeOf, ruledWrite}
+use Rattle.writer.specs.declared.Written.the-variants.{Refused}
+use Rattle.writer.specs.Writing.{outcome, writeOf, ruledWrite}
 use Rattle.writer.proofs.Stored.{home}
 use Rattle.writer.proofs.write.Statement.{statement}
 use Rattle.writer.proofs.write.Tie as tie
+
+-- 7 comes first, whatever the room
+refused : (m : Message) (buffer : List ℕ) (at : ℕ) (r : Refusal) → rangeOf m ≡ verdict.Refused r → writeOf m buffer at ≡ outcome (Refused r) buffer
+unfolding writeOf
+refused m buffer at r e = ap (λ (v : Verdict). ruledWrite v (bytesOf m) buffer at) e
 
 range-of-requires : tie.Need-range-of-requires
 range-of-requires c κs = search needs
@@ -35,10 +47,9 @@ put-requires : tie.Need-put-requires
 put-requires c κs = search needs
 
 returns : tie.Need-returns
-unfolding writeOf
 returns c =
     let a = c .before .before .before .before .before .args in
-    sym (ap (λ (v : Verdict). ruledWrite v (bytesOf (a .m)) (now (a .buf)) (a .at)) (sym (c .before .before .before .range-of .ensures) ∙ c .before .r .given .1))
+    sym (refused (a .m) (now (a .buf)) (a .at) _ (sym (c .before .before .before .range-of .ensures) ∙ c .before .r .given .1))
 
 same-length : tie.Need-same-length
 same-length c = search needs

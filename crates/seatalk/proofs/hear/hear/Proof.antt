@@ -1,29 +1,45 @@
 -- `hear` makes the definition's tests in the definition's order, and answers what the listener gives.
 use borrow.Author.Tests.{lt-ltb, le-ltb, ne-eqb}
-use mathlib.Core.Path.{_≡_, refl, _∙_}
+use Prim.Native.Nat.{ℕ, _≤_, _<_}
+use mathlib.Core.Path.{_≡_, refl, sym, _∙_}
+use mathlib.Core.List.{List}
 use lib.ListN.{length}
+use Rattle.datagram.specs.Refusals.{symbolAbove, notSound}
 use Rattle.listener.specs.Step.{hearOf}
-use Rattle.seatalk.specs.Hear.{listenerOf, hearCall}
+use Rattle.seatalk.specs.Hear.{refused, listenerOf, hearCall}
 use borrow.Author.Needs.{needs}
 use Rattle.named.proofs.Signs.{handed}
 use Rattle.seatalk.proofs.hear.hear.Statement.{statement}
 use Rattle.seatalk.proofs.hear.hear.Tie as tie
 
+-- 1 comes first, whatever the state and the room
+above : (state : List ℕ) (symbol : ℕ) (result : List ℕ) → 511 < symbol → hearCall state symbol result ≡ refused symbolAbove state result
+unfolding hearCall
+above state symbol result h = rw (lt-ltb 511 symbol h)
+
+-- then 2, whatever the room
+other-length : (state : List ℕ) (symbol : ℕ) (result : List ℕ) → symbol ≤ 511 → (length state ≡ 18 → ⊥)
+    → hearCall state symbol result ≡ refused notSound state result
+unfolding hearCall
+other-length state symbol result h other = rw (le-ltb 511 symbol h, ne-eqb (length state) 18 other)
+
 code-of-requires : tie.Need-code-of-requires
 code-of-requires c κs = search needs
 
 returns : tie.Need-returns
-unfolding hearCall
-returns c = let a = c .before .before .before .before .args in rw (handed (record { sfits = c .code-of .ok }) (c .code-of .ensures), lt-ltb 511 (a .symbol) (c .before .if1 .taken))
+returns c =
+    let a = c .before .before .before .before .args in
+    rw (handed (record { sfits = c .code-of .ok }) (c .code-of .ensures))
+    (sym (above (a .state .now) (a .symbol) (a .result .now) (c .before .if1 .taken)))
 
 code-of-requires-2 : tie.Need-code-of-requires-2
 code-of-requires-2 c κs = search needs
 
 returns-2 : tie.Need-returns-2
-unfolding hearCall
 returns-2 c =
     let a = c .before .before .before .before .before .args in
-    rw (handed (record { sfits = c .code-of2 .ok }) (c .code-of2 .ensures), le-ltb 511 (a .symbol) (c .before .before .if1 .left), ne-eqb (length (a .state .now)) 18 (c .before .if2 .taken))
+    rw (handed (record { sfits = c .code-of2 .ok }) (c .code-of2 .ensures))
+    (sym (other-length (a .state .now) (a .symbol) (a .result .now) (c .before .before .if1 .left) (c .before .if2 .taken)))
 
 listener-of-requires : tie.Need-listener-of-requires
 listener-of-requires c κs = search needs

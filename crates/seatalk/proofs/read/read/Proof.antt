@@ -1,11 +1,24 @@
 -- `read` places what the reader gives; what is read is in range.
-use mathlib.Core.Path.{refl, sym, _∙_}
+use Prim.Native.Nat.{ℕ}
+use mathlib.Core.Path.{_≡_, refl, sym, ap, _∙_}
+use mathlib.Core.List.{List}
+use denote.Ref.{now}
+use Rattle.datagram.specs.declared.Refusal.{Refusal}
+use Rattle.message.specs.declared.Reading.{Reading}
+use Rattle.message.specs.declared.Reading.the-variants.{Refused}
+use Rattle.message.specs.Reading.{readOf}
 use Rattle.roundtrip.proofs.RoundTrip.{round-trip}
 use Rattle.named.proofs.Signs.{handed}
-use Rattle.seatalk.specs.Read.{readCall}
+use Rattle.seatalk.specs.Told.{told, codeOf}
+use Rattle.seatalk.specs.Read.{readTold, readCall}
 use borrow.Author.Needs.{needs}
 use Rattle.seatalk.proofs.read.read.Statement.{statement}
 use Rattle.seatalk.proofs.read.read.Tie as tie
+
+-- the reader's refusal comes first, whatever the room
+unread : (bytes result : List ℕ) (r : Refusal) → readOf bytes ≡ Refused r → readCall bytes result ≡ told (codeOf r) result
+unfolding readCall
+unread bytes result r e = ap (λ (v : Reading). readTold v result) e
 
 read-requires : tie.Need-read-requires
 read-requires c κs = search needs
@@ -23,10 +36,10 @@ place-requires : tie.Need-place-requires
 place-requires c κs = round-trip .read-in-range _ _ (sym (c .before .before .before .before .read .ensures) ∙ c .before .before .m .given .1)
 
 returns : tie.Need-returns
-unfolding readCall
 returns c =
-    let r = c .before .before .before .before .read in
-    rw (handed (record { sfits = c .code-of .ok }) (c .code-of .ensures), ← r .ensures, c .before .before .r .given .1)
+    let a = c .before .before .before .before .before .before .before .args in
+    rw (handed (record { sfits = c .code-of .ok }) (c .code-of .ensures))
+    (sym (unread (now (a .bytes)) (now (a .result)) _ (sym (c .before .before .before .before .read .ensures) ∙ c .before .before .r .given .1)))
 
 same-length : tie.Need-same-length
 same-length c = search needs

@@ -1,10 +1,23 @@
 -- `write` places the message that is named.
-use mathlib.Core.Path.{refl}
+use Prim.Native.Nat.{ℕ}
+use mathlib.Core.Path.{_≡_, refl, sym, ap, _∙_}
+use mathlib.Core.List.{List}
+use denote.Ref.{now}
+use Rattle.datagram.specs.declared.Refusal.{Refusal}
+use Rattle.named.specs.declared.Naming.{Naming}
+use Rattle.named.specs.declared.Naming.the-variants.{Refused}
+use Rattle.named.specs.Naming.{namedOf}
 use Rattle.named.proofs.Signs.{handed}
-use Rattle.seatalk.specs.Write.{writeCall}
+use Rattle.seatalk.specs.Told.{told, codeOf}
+use Rattle.seatalk.specs.Write.{nameTold, writeCall}
 use borrow.Author.Needs.{needs}
 use Rattle.seatalk.proofs.write.write.Statement.{statement}
 use Rattle.seatalk.proofs.write.write.Tie as tie
+
+-- 4, 5 and a bad flag's 7 come first, whatever the room
+unnamed : (command : ℕ) (fields result : List ℕ) (r : Refusal) → namedOf command fields ≡ Refused r → writeCall command fields result ≡ told (codeOf r) result
+unfolding writeCall
+unnamed command fields result r e = ap (λ (v : Naming). nameTold v result) e
 
 name-requires : tie.Need-name-requires
 name-requires c κs = search needs
@@ -22,10 +35,10 @@ place-requires : tie.Need-place-requires
 place-requires c κs = search needs
 
 returns : tie.Need-returns
-unfolding writeCall
 returns c =
-    let r = c .before .before .before .before .name in
-    rw (handed (record { sfits = c .code-of .ok }) (c .code-of .ensures), ← r .ensures, c .before .before .r .given .1)
+    let a = c .before .before .before .before .before .before .before .args in
+    rw (handed (record { sfits = c .code-of .ok }) (c .code-of .ensures))
+    (sym (unnamed (a .command) (now (a .fields)) (now (a .result)) _ (sym (c .before .before .before .before .name .ensures) ∙ c .before .before .r .given .1)))
 
 same-length : tie.Need-same-length
 same-length c = search needs
