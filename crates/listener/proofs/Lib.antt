@@ -1,2 +1,4 @@
-pub mod Held
+pub mod Order
 pub mod Sound
+pub mod Held
+pub mod Stays
