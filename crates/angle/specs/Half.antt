@@ -3,7 +3,7 @@ use Prim.Native.Nat.{ℕ, _+_, _*_, _/_, _%_}
 use Rattle.angle.specs.declared.Digits.{Digits}
 
 abbrev pub halfAngle : ℕ → ℕ → ℕ
-halfAngle u six = 180 * (u % 4) + 4 * six + u / 4
+halfAngle u six = 180 * (u % 4) + 4 * six + u / 4 % 4
 
 abbrev pub halfDigits : ℕ → Digits
 halfDigits halves = record { u = halves / 180 % 4 + 4 * (halves % 4); six = halves % 180 / 4 }

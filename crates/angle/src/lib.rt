@@ -14,7 +14,7 @@ pub struct Digits {
 pub fn half_angle(u: u8, six: u8) -> u32
     ensures { λ r. ⌜ r ≡ halfAngle u six ⌝ }
 {
-    180 * (u as u32 % 4) + 4 * (six as u32) + u as u32 / 4
+    180 * (u as u32 % 4) + 4 * (six as u32) + u as u32 / 4 % 4
 }
 
 // The spelling of half degrees.

@@ -4,18 +4,18 @@ use mathlib.Core.Path.{_≡_, refl, ap, _∙_}
 use mathlib.Core.Bool.{true, false≢true, and-eq-true-iff}
 use mathlib.Core.List.{List, [], _∷_, _++_, append-assoc, map-append}
 use native.Mathlib.Omega.{arith}
-use borrow.Author.Tests.{lt-ltb, eq-eqb, ne-eqb, ltb-true}
+use borrow.Author.Tests.{eq-eqb, ne-eqb, ltb-true}
 use lib.Dec.{ltb}
 use lib.ListN.{length, length-append}
 use lib.Seq.{append-snoc}
 use Rattle.datagram.specs.Whole.{declared, whole, symbols}
-use Rattle.datagram.specs.Refusals.{symbolAbove}
 use Rattle.listener.specs.declared.Listener.{Listener}
 use Rattle.listener.specs.declared.Answer.{Answer}
 use Rattle.listener.specs.declared.Answer.the-variants.{Opened, Cancelled, Stray, Kept}
 use Rattle.listener.specs.State.{holding}
-use Rattle.listener.specs.Step.{hearOf, refusedBy, quiet}
+use Rattle.listener.specs.Step.{hearOf, quiet}
 use Rattle.datagram.proofs.Whole.{declares}
+use Rattle.listener.proofs.Order.{refused-above}
 use Rattle.listener.proofs.Held.{Unfinished, on-command, on-other}
 use Rattle.message.specs.declared.Message.{Message}
 use Rattle.message.specs.Spelling.{bytesOf, symbolsOf}
@@ -31,10 +31,6 @@ ShownFrom xs calls = allShow calls (run hearOf (holding xs) (symbolsIn calls))
 abbrev pub ShownAnyway : List Call → Type 0
 ShownAnyway calls = (xs : List ℕ) → Unfinished xs → ShownFrom xs calls
 
-refuses : (l : Listener) (s : ℕ) → 511 < s → hearOf l s ≡ refusedBy symbolAbove l
-unfolding hearOf
-refuses l s h = rw (lt-ltb 511 s h)
-
 quiet-shows : (answer : Answer) (l : Listener) → passes answer ≡ true → shows nothing (quiet answer l)
 quiet-shows answer l p = (p, record { no-bytes = refl; no-count = refl })
 
@@ -46,7 +42,7 @@ command-then c rest h r (x ∷ xs) u = rw (on-command (x ∷ xs) c u h) (quiet-s
 pub strays-then : (rest : List Call) {ss : List ℕ} → Below ss → ShownFrom [] rest → ShownFrom [] (quietly ss ++ rest)
 strays-then rest none r = r
 strays-then rest (one-more {s = s} h b) r =
-    rw (on-other [] s (omega arith) h) (quiet-shows Stray _ refl, strays-then rest b r)
+    rw (on-other [] s (omega arith) (omega arith)) (quiet-shows Stray _ refl, strays-then rest b r)
 
 -- a datagram has 3 bytes or more, so the second is kept
 second-then : (c d : ℕ) (rest : List Call) → d < 256 → ShownFrom (c ∷ d ∷ []) rest → ShownFrom (c ∷ []) (call d nothing ∷ rest)
@@ -87,7 +83,7 @@ module _ (m : Message) (rest : List Call) (r : ShownFrom [] rest) (c d : ℕ) (w
       let size : length (bytesOf m) ≡ length (c ∷ d ∷ (xs ++ (y ∷ []))) = ap length e in
       let more : length (xs ++ (y ∷ [])) ≡ length xs + 1 = length-append xs (y ∷ []) in
       rw (on-other (c ∷ d ∷ xs) y (omega arith) h, eq-eqb (length (c ∷ d ∷ (xs ++ (y ∷ [])))) (declared d) (omega arith))
-      (record { handed = refl; its-bytes = rw e; their-number = rw e }, r)
+      (record { handed = refl; its-bytes = rw e refl; their-number = rw e }, r)
   handed-all xs (one-more {s = y} h (one-more {s = z} {ss = zs} k b)) e =
       let size : length (bytesOf m) ≡ length (c ∷ d ∷ (xs ++ (y ∷ z ∷ zs))) = ap length e in
       let more : length (xs ++ (y ∷ z ∷ zs)) ≡ length xs + length (y ∷ z ∷ zs) = length-append xs (y ∷ z ∷ zs) in
@@ -118,4 +114,4 @@ pub put-in : {cs ds : List Call} → Mixed cs ds → (l : Listener) → allShow 
     → allShow ds (run hearOf l (symbolsIn ds))
 put-in mixed-end l r = r
 put-in (as-it-is m) l r = (r .0, put-in m _ (r .1))
-put-in (above {s = s} h m) l r = rw (refuses l s h) ((refl, record { no-bytes = refl; no-count = refl }), put-in m l r)
+put-in (above {s = s} h m) l r = rw (refused-above l s (omega arith)) ((refl, record { no-bytes = refl; no-count = refl }), put-in m l r)

@@ -1,3 +1,5 @@
-pub mod Held
+pub mod Order
 pub mod Sound
 pub mod Handed
+pub mod Held
+pub mod Stays

@@ -4,4 +4,3 @@ pub mod Range
 pub mod Spelling
 pub mod Decode
 pub mod Reading
-pub mod Ignored

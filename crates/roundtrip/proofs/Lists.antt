@@ -1,11 +1,12 @@
 -- Lists of bytes number by number, so that arithmetic reads and proves them.
 use mathlib.Core.Path.{_≡_, refl, ap₂}
-use mathlib.Core.Bool.{Bool, true, false}
+use mathlib.Core.Bool.{Bool, true, false, and-eq-true-iff}
 use mathlib.Core.List.{List, [], _∷_}
 use Prim.Native.Nat.{ℕ, zero, suc, _≤_, _<_}
 use native.Mathlib.Omega.{arith}
-use lib.ListN.{length}
-use borrow.Author.Tests.{lt-ltb}
+use lib.Dec.{ltb}
+use lib.ListN.{length, getD, drop}
+use borrow.Author.Tests.{lt-ltb, ltb-true}
 use Rattle.number.specs.Word.{num}
 use Rattle.roundtrip.specs.Laws.{allBytes}
 
@@ -22,6 +23,13 @@ Below (x ∷ xs) = (x < 256) × Below xs
 pub below-bytes : (s : List ℕ) → Below s → allBytes s ≡ true
 below-bytes [] h = refl
 below-bytes (x ∷ xs) h = rw (lt-ltb x 256 (h .0)) (below-bytes xs (h .1))
+
+-- the first of a list of bytes, and the rest
+pub first : (s : List ℕ) → allBytes s ≡ true → (getD s 0 0 < 256) × (allBytes (drop 1 s) ≡ true)
+first [] b = (omega arith, refl)
+first (x ∷ s) b =
+    let parts = and-eq-true-iff (ltb x 256) (allBytes s) .0 b in
+    (ltb-true x 256 (parts .0), parts .1)
 
 -- two lists have the same numbers
 abbrev pub Same : List ℕ → List ℕ → Type 0

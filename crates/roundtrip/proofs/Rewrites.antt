@@ -28,10 +28,10 @@ use Rattle.message.specs.Spelling.{bytesOf}
 use Rattle.message.specs.Decode.{spelled}
 use Rattle.message.specs.Reading.{byte, readKind}
 use Rattle.message.specs.Table.{kinds}
-use Rattle.message.specs.Ignored.{ignored}
+use Rattle.roundtrip.specs.Ignored.{ignored}
 use Rattle.message.specs.Fields.{kindOf}
 use Rattle.roundtrip.proofs.Lists.{same, Lists}
-use Rattle.roundtrip.proofs.Standing.{AllStand, kept, clear, six-bits, seven}
+use Rattle.roundtrip.proofs.Standing.{AllStand, kept, clear, seven}
 use Rattle.roundtrip.proofs.Rows.{Each, _and_, end}
 use Rattle.roundtrip.proofs.Signs.{water-spells}
 
@@ -57,60 +57,60 @@ depth : Rewritten 0x00 5 kind.Depth
 unfolding readKind kindOf ignored bytesOf
 depth a b c d e head h =
     let again : ℕ → ℕ = λ x. 128 * num (bit 128 x) + 64 * num (bit 64 x) + 4 * num (bit 4 x) + 2 * num (bit 2 x) + num (bit 1 x) in
-    same _ _ (omega (arith, clear b (h .1 .0), kept 0x38 0 again tt c (h .1 .1 .0)))
+    same _ _ (omega (arith, clear (h .1 .0), kept (h .1 .1 .0) again tt))
 
 windAngle : Rewritten 0x10 4 kind.WindAngle
 unfolding readKind kindOf ignored bytesOf
-windAngle a b c d head h = same _ _ (omega (arith, clear b (h .1 .0)))
+windAngle a b c d head h = same _ _ (omega (arith, clear (h .1 .0)))
 
 windSpeed : Rewritten 0x11 4 kind.WindSpeed
 unfolding readKind kindOf ignored bytesOf
 windSpeed a b c d head =
     if-passed (leb (d % 16) 9) (Read (WindSpeed (10 * (c % 128) + d % 16) (bit 128 c))) (outOfRange 1) (Back (a ∷ b ∷ c ∷ d ∷ []))
-    (λ e h. same _ _ (omega (arith, leb-true (d % 16) 9 e, clear b (h .1 .0), clear d (h .1 .1 .1 .0), seven c (h .1 .1 .0))))
+    (λ e h. same _ _ (omega (arith, leb-true (d % 16) 9 e, clear (h .1 .0), clear (h .1 .1 .1 .0), seven (h .1 .1 .0))))
 
 speed : Rewritten 0x20 4 kind.Speed
 unfolding readKind kindOf ignored bytesOf
-speed a b c d head h = same _ _ (omega (arith, clear b (h .1 .0)))
+speed a b c d head h = same _ _ (omega (arith, clear (h .1 .0)))
 
 trip : Rewritten 0x21 5 kind.Trip
 unfolding readKind kindOf ignored bytesOf
-trip a b c d e head h = same _ _ (omega (arith, clear b (h .1 .0), clear e (h .1 .1 .1 .1 .0)))
+trip a b c d e head h = same _ _ (omega (arith, clear (h .1 .0), clear (h .1 .1 .1 .1 .0)))
 
 total : Rewritten 0x22 5 kind.Total
 unfolding readKind kindOf ignored bytesOf
-total a b c d e head h = same _ _ (omega (arith, clear b (h .1 .0), kept 0xFF 0 (λ x. 0) tt e (h .1 .1 .1 .1 .0)))
+total a b c d e head h = same _ _ (omega (arith, clear (h .1 .0), kept (h .1 .1 .1 .1 .0) (λ x. 0) tt))
 
 logs : Rewritten 0x25 7 kind.Logs
 unfolding readKind kindOf ignored bytesOf
-logs a b c d e f g head h = same _ _ (omega (arith, clear g (h .1 .1 .1 .1 .1 .1 .0)))
+logs a b c d e f g head h = same _ _ (omega (arith, clear (h .1 .1 .1 .1 .1 .1 .0)))
 
 speeds : Rewritten 0x26 7 kind.Speeds
 unfolding readKind kindOf ignored bytesOf
 speeds a b c d e f g head h =
-    same _ _ (omega (arith, clear b (h .1 .0), kept 0xBC 0 (λ x. 64 * num (bit 64 x) + num (bit 1 x) + 2 * num (bit 2 x)) tt g (h .1 .1 .1 .1 .1 .1 .0)))
+    same _ _ (omega (arith, clear (h .1 .0), kept (h .1 .1 .1 .1 .1 .1 .0) (λ x. 64 * num (bit 64 x) + num (bit 1 x) + 2 * num (bit 2 x)) tt))
 
 water : Rewritten 0x27 4 kind.Water
 unfolding readKind kindOf ignored bytesOf
-water a b c d head h = same _ _ (omega (arith, clear b (h .1 .0), water-spells (c + 256 * d) (omega arith)))
+water a b c d head h = same _ _ (omega (arith, clear (h .1 .0), water-spells (c + 256 * d) (omega arith)))
 
 lamp : Rewritten 0x30 3 kind.Lamp
 unfolding readKind kindOf ignored bytesOf
 lamp a b c head =
     if-passed (eqb (c % 4) 0) (Read (Lamp (c % 16 / 4))) (outOfRange 1) (Back (a ∷ b ∷ c ∷ []))
-    (λ e h. same _ _ (omega (arith, eqb-true (c % 4) 0 e, clear b (h .1 .0), clear c (h .1 .1 .0))))
+    (λ e h. same _ _ (omega (arith, eqb-true (c % 4) 0 e, clear (h .1 .0), clear (h .1 .1 .0))))
 
 latitude : Rewritten 0x50 5 kind.Latitude
 unfolding readKind kindOf ignored bytesOf
-latitude a b c d e head h = same _ _ (omega (arith, clear b (h .1 .0), seven e (h .1 .1 .1 .1 .0)))
+latitude a b c d e head h = same _ _ (omega (arith, clear (h .1 .0), seven (h .1 .1 .1 .1 .0)))
 
 longitude : Rewritten 0x51 5 kind.Longitude
 unfolding readKind kindOf ignored bytesOf
-longitude a b c d e head h = same _ _ (omega (arith, clear b (h .1 .0), seven e (h .1 .1 .1 .1 .0)))
+longitude a b c d e head h = same _ _ (omega (arith, clear (h .1 .0), seven (h .1 .1 .1 .1 .0)))
 
 ground : Rewritten 0x52 4 kind.Ground
 unfolding readKind kindOf ignored bytesOf
-ground a b c d head h = same _ _ (omega (arith, clear b (h .1 .0)))
+ground a b c d head h = same _ _ (omega (arith, clear (h .1 .0)))
 
 course : Rewritten 0x53 3 kind.Course
 unfolding readKind kindOf ignored bytesOf
@@ -119,7 +119,7 @@ course a b c head =
     (λ e h.
     let six = leb-true (c % 64) 44 e in
     ap (λ (g : Digits). 0x53 ∷ (16 * g .u) ∷ g .six ∷ []) (half-spells (b / 16) (c % 64) (omega arith) (omega arith))
-    ∙ same _ _ (omega (arith, six-bits c (h .1 .1 .0))))
+    ∙ same _ _ (omega (arith, kept (h .1 .1 .0) (λ x. x % 64) tt)))
 
 time : Rewritten 0x54 4 kind.Time
 unfolding readKind kindOf ignored bytesOf
@@ -147,14 +147,14 @@ heading a b c d e head =
     (λ q h.
     let six = leb-true (c % 64) 44 p in
     let rest = leb-true d 179 q in
-    let locked = kept 0xFD 0x20 (λ x. 0x20 + 2 * num (bit 2 x)) tt e (h .1 .1 .1 .1 .0) in
+    let locked = kept (h .1 .1 .1 .1 .0) (λ x. 0x20 + 2 * num (bit 2 x)) tt in
     ap (λ (g : Digits). 0x89 ∷ (16 * g .u + 2) ∷ (g .six + 64 * (reference / 180 % 4)) ∷ (reference % 180) ∷ (0x20 + 2 * num (bit 2 e)) ∷ [])
     (half-spells (b / 16) (c % 64) (omega arith) (omega arith))
     ∙ same _ _ (omega arith)))
 
 variation : Rewritten 0x99 3 kind.Variation
 unfolding readKind kindOf ignored bytesOf
-variation a b c head h = same _ _ (omega (arith, clear b (h .1 .0), kept 0 0 (λ x. (256 - ofZ w32 (negℤ (toZ w8 x)) % 256) % 256) tt c (h .1 .1 .0)))
+variation a b c head h = same _ _ (omega (arith, clear (h .1 .0), kept (h .1 .1 .0) (λ x. (256 - ofZ w32 (negℤ (toZ w8 x)) % 256) % 256) tt))
 
 turn : Rewritten 0x9C 4 kind.Turn
 unfolding readKind kindOf ignored bytesOf
@@ -163,7 +163,7 @@ turn a b c d head =
     (λ e h.
     let six = leb-true (c % 64) 44 e in
     ap (λ (g : Digits). 0x9C ∷ (16 * g .u + 1) ∷ g .six ∷ (ofZ w32 (toZ w8 d) % 256) ∷ []) (whole-spells (b / 16) (c % 64) (omega arith) (omega arith))
-    ∙ same _ _ (omega (arith, six-bits c (h .1 .1 .0), kept 0 0 (λ x. ofZ w32 (toZ w8 x) % 256) tt d (h .1 .1 .1 .0))))
+    ∙ same _ _ (omega (arith, kept (h .1 .1 .0) (λ x. x % 64) tt, kept (h .1 .1 .1 .0) (λ x. ofZ w32 (toZ w8 x) % 256) tt)))
 
 pub rewrites : Each (λ row. Rewritten (row .command) (row .length) (row .kind)) kinds
 unfolding kinds

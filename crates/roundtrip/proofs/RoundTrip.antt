@@ -3,6 +3,7 @@ use mathlib.Core.Path.{_≡_, refl, subst}
 use mathlib.Core.Bool.{true}
 use mathlib.Core.List.{List}
 use Prim.Native.Nat.{ℕ}
+use native.Mathlib.Omega.{arith}
 use lib.ListN.{length}
 use Rattle.message.specs.declared.Message.{Message}
 use Rattle.message.specs.declared.Reading.{Reading}
@@ -12,7 +13,7 @@ use Rattle.message.specs.Range.{rangeOf}
 use Rattle.message.specs.Spelling.{bytesOf}
 use Rattle.message.specs.Reading.{byte, readOf}
 use Rattle.message.specs.Table.{findOf}
-use Rattle.message.specs.Ignored.{ignored, asWritten}
+use Rattle.roundtrip.specs.Ignored.{ignored, asWritten}
 use Rattle.roundtrip.specs.Laws.{RoundTrip, allBytes}
 use Rattle.message.specs.Fields.{kindOf}
 use Rattle.roundtrip.proofs.Lists.{of-length}
@@ -24,6 +25,8 @@ use Rattle.roundtrip.proofs.Written.{written, accepted}
 use Rattle.roundtrip.proofs.Decodes.{decodes}
 use Rattle.roundtrip.proofs.Standing.{all-stand}
 use Rattle.roundtrip.proofs.Rewrites.{IfRead, Back, rewrites}
+use Rattle.roundtrip.proofs.IgnoredSet.{ignored-set}
+use Rattle.roundtrip.proofs.IgnoredUnread.{ignored-unread}
 
 reads-back : (m : Message) → rangeOf m ≡ InRange → readOf (bytesOf m) ≡ Read m
 reads-back m r =
@@ -46,7 +49,7 @@ writes-back s m bytes e stand =
 pub round-trip : RoundTrip
 round-trip =
     record {
-      written = written;
+      written = λ m buffer at ranged room. written m buffer at ranged (omega arith);
       accepted = accepted;
       whole-datagram = whole-datagram;
       all-bytes = all-bytes;
@@ -54,4 +57,6 @@ round-trip =
       one-message = one-message;
       read-in-range = λ s m e. frame s m e .in-range;
       writes-back = writes-back;
+      ignored-set = ignored-set;
+      ignored-unread = ignored-unread;
     }

@@ -6,14 +6,17 @@ use Prim.Native.Nat.{ℕ, _+_, _≤_}
 use lib.Dec.{ltb}
 use lib.ListN.{length, take, drop}
 use Rattle.datagram.specs.Whole.{whole}
+use Rattle.message.specs.declared.Row.{Row}
+use Rattle.message.specs.declared.Lookup.the-variants.{Found}
 use Rattle.message.specs.declared.Message.{Message}
 use Rattle.message.specs.declared.Reading.the-variants.{Read}
 use Rattle.message.specs.declared.Verdict.the-variants.{InRange}
+use Rattle.message.specs.Table.{findOf}
 use Rattle.message.specs.Fields.{kindOf}
 use Rattle.message.specs.Range.{rangeOf}
 use Rattle.message.specs.Spelling.{bytesOf, symbolsOf}
-use Rattle.message.specs.Reading.{readOf}
-use Rattle.message.specs.Ignored.{ignored, asWritten}
+use Rattle.message.specs.Reading.{byte, readOf}
+use Rattle.roundtrip.specs.Ignored.{ignored, asWritten, agreeOutside}
 use Rattle.writer.specs.declared.Written.the-variants.{Wrote}
 use Rattle.writer.specs.Writing.{outcome, writeOf}
 
@@ -39,3 +42,8 @@ pub record RoundTrip : Type 0 where
   pub read-in-range : (s : List ℕ) (m : Message) → readOf s ≡ Read m → rangeOf m ≡ InRange
   -- a datagram that is read and written again gives its own bytes, if its ignored bits stand as the writer sets them
   pub writes-back : (s : List ℕ) (m : Message) → allBytes s ≡ true → readOf s ≡ Read m → asWritten (ignored (kindOf m)) s ≡ true → bytesOf m ≡ s
+  -- the writer sets the ignored bits of every message so
+  pub ignored-set : (m : Message) → asWritten (ignored (kindOf m)) (bytesOf m) ≡ true
+  -- bytes that differ in ignored bits alone read the same, or are refused the same
+  pub ignored-unread : (s t : List ℕ) (row : Row) → allBytes s ≡ true → allBytes t ≡ true → findOf (byte s 0) ≡ Found row
+      → length s ≡ length t → agreeOutside (ignored (row .kind)) s t ≡ true → readOf s ≡ readOf t

@@ -1,1 +1,2 @@
+pub mod Ignored
 pub mod Laws

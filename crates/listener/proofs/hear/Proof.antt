@@ -1,6 +1,6 @@
 -- `hear` makes the definition's tests in the definition's order; a stray leaves the state, which is sound and so the empty one.
 use borrow.Author.Needs.{needs}
-use borrow.Author.Tests.{lt-ltb, le-ltb, le-leb, lt-leb, not-true, not-false}
+use borrow.Author.Tests.{le-leb, lt-leb, not-true, not-false}
 use Prim.Native.Nat.{ℕ}
 use mathlib.Core.Bool.{true, false}
 use mathlib.Core.Path.{_≡_, sym, _∙_, ap}
@@ -11,6 +11,7 @@ use Rattle.listener.specs.declared.Listener.{Listener}
 use Rattle.listener.specs.declared.Answer.the-variants.{Stray}
 use Rattle.listener.specs.State.{sound, heldBytes, holding}
 use Rattle.listener.specs.Step.{hearOf, step, quiet, otherSymbol}
+use Rattle.listener.proofs.Order.{refused-above, refused-unsound, step-taken}
 use Rattle.listener.proofs.Sound.{held-by, holding-held}
 use Rattle.listener.proofs.hear.Statement.{statement}
 use Rattle.listener.proofs.hear.Tie as tie
@@ -26,8 +27,7 @@ past-sound c = sym (c .before .is-sound .ensures) ∙ not-false _ (c .if2 .left)
 
 -- past the refusals the step is taken
 steps : (c : tie.Else2) → let a = c .before .before .before .args in hearOf (a .l) (a .symbol) ≡ step (heldBytes (a .l)) (a .symbol)
-unfolding hearOf
-steps c = rw (le-ltb 511 (c .before .before .before .args .symbol) (omega arith), past-sound c)
+steps c = let a = c .before .before .before .args in step-taken (a .l) (a .symbol) (omega arith) (past-sound c)
 
 -- past the command symbols it is another symbol's
 others : (c : tie.Else3) → let a = c .before .before .before .before .args in hearOf (a .l) (a .symbol) ≡ otherSymbol (heldBytes (a .l)) (a .symbol)
@@ -38,8 +38,9 @@ refused-requires : tie.Need-refused-requires
 refused-requires c κs = search needs
 
 returns : tie.Need-returns
-unfolding hearOf
-returns c = c .refused .ensures ∙ rw (lt-ltb 511 (c .before .before .args .symbol) (omega arith))
+returns c =
+    let a = c .before .before .args in
+    rw (refused-above (a .l) (a .symbol) (omega arith)) (c .refused .ensures)
 
 is-sound-requires : tie.Need-is-sound-requires
 is-sound-requires c κs = search needs
@@ -48,11 +49,10 @@ refused-requires-2 : tie.Need-refused-requires-2
 refused-requires-2 c κs = search needs
 
 returns-2 : tie.Need-returns-2
-unfolding hearOf
 returns-2 c =
     let a = c .before .before .before .before .args in
     let unsound : sound (a .l) ≡ false = sym (c .before .before .is-sound .ensures) ∙ not-true _ (c .before .if2 .taken) in
-    c .refused2 .ensures ∙ rw (le-ltb 511 (a .symbol) (omega arith), unsound)
+    rw (refused-unsound (a .l) (a .symbol) (omega arith) unsound) (c .refused2 .ensures)
 
 cast-opened : tie.Need-cast-opened
 cast-opened c = search needs

@@ -1,12 +1,12 @@
 -- The bits that reading ignores, kind by kind, and how the writer sets them: to 0, but for the 2 of 89.
-use Prim.Native.Nat.{ℕ}
+use Prim.Native.Nat.{ℕ, _-_}
 use mathlib.Core.Bool.{Bool, true, _&&_}
 use mathlib.Core.List.{List, [], _∷_}
 use lib.Dec.{eqb}
 use lib.Bits.{bitAnd}
 use lib.ListN.{getD, drop}
 use Rattle.message.specs.declared.Kind.{Kind}
 use Rattle.message.specs.declared.Kind.the-variants.{Depth, WindAngle, WindSpeed, Speed, Trip, Total, Logs, Speeds, Water, Lamp, Latitude, Longitude, Ground, Course, Time, Date, Key, Heading, Variation, Turn}
 
 -- the ignored bits of one byte as a mask, and their value as written
 pub record Ignored : Type 0 where
@@ -46,3 +46,9 @@ ignored Turn = none ∷ none ∷ bits 0xC0 ∷ none ∷ []
 abbrev pub asWritten : List Ignored → List ℕ → Bool
 asWritten [] s = true
 asWritten (i ∷ is) s = eqb (bitAnd (i .mask) (getD s 0 0)) (i .written) && asWritten is (drop 1 s)
+
+-- the bits of each byte that are not ignored are the same in both
+abbrev pub agreeOutside : List Ignored → List ℕ → List ℕ → Bool
+agreeOutside [] s t = true
+agreeOutside (i ∷ is) s t =
+    eqb (bitAnd (255 - i .mask) (getD s 0 0)) (bitAnd (255 - i .mask) (getD t 0 0)) && agreeOutside is (drop 1 s) (drop 1 t)
