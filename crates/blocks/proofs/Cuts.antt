@@ -1,10 +1,12 @@
--- Where a recording is cut in two, its walk is that of the whole records of the first part, and then that of what is left of it
--- with the second part, with offsets counted from there.
+-- Where a recording is cut in two, its walk is what a pass over the first part gives, and then the walk of what is left of that
+-- part with the second part, with offsets counted from there.
 use Prim.Native.Nat.{ℕ, zero, suc, _+_, _-_, _*_, _≤_}
 use native.Mathlib.Nat.{add-assoc, add-zero, suc-add}
 use native.Mathlib.Omega.{arith}
 use mathlib.Core.Path.{_≡_, refl, ap}
-use mathlib.Core.List.{List, _++_}
+use mathlib.Core.Bool.{Bool, true, false, cond}
+use mathlib.Core.List.{List, [], _++_}
+use lib.Dec.{leb}
 use lib.ListN.{length, drop, length-append, length-drop}
 use lib.Seq.{drop-append-le}
 use Rattle.datagram.specs.declared.Refusal.{Refusal}
@@ -13,49 +15,50 @@ use Rattle.listener.specs.Step.{hearOf}
 use Rattle.recording.specs.declared.Record.{Record}
 use Rattle.recording.specs.declared.Record.the-variants as record-case
 use Rattle.recording.specs.Record.{recordOf}
+use Rattle.recording.proofs.Records.{with-more, recordFrom, without}
 use Rattle.progress.specs.declared.Progress.{Progress}
+use Rattle.progress.specs.declared.Stop.{Stop}
 use Rattle.progress.specs.declared.Stop.the-variants.{Running, Stopped}
 use Rattle.progress.specs.Progress.{advanced}
+use Rattle.framing.specs.Walk.{Walk, walk, walkRecord, behind, entryOf, lineRoom, walkFrom, walkAll, recordsIn}
+use Rattle.framing.proofs.Reach.{reached}
 use Rattle.listing.specs.Line.{lineOf}
-use Rattle.framing.specs.Walk.{Walk, walkRecord, behind, entryOf, walkAll, recordsIn}
-use Rattle.blocks.specs.Laws.{fromEarlier}
 use Rattle.blocks.proofs.Stretch.{here, Broken, one-more, taken, goes-on, has-stopped}
-use Rattle.blocks.proofs.Records.{no-end, with-more, recordFrom, without}
 
--- the walk of the first records breaks off the walk of more
-first : (m k : ℕ) (s : List ℕ) (at : ℕ) (p : Progress) → Broken s (m + k) at p (walkAll lineOf m s at p)
-unfolding walkAll
-first zero k s at p = (_, here)
-first (suc m) k s at p =
+-- a walk whose offsets are counted from so many bytes earlier
+abbrev pub stopFrom : ℕ → Stop → Stop
+stopFrom base Running = Running
+stopFrom base (Stopped r) = Stopped (record { number = r .number; place = base + r .place })
+
+abbrev pub fromEarlier : ℕ → Walk → Walk
+fromEarlier base w = walk (w .text) (w .progress) (base + w .reached) (stopFrom base (w .stop))
+
+with-room : {s : List ℕ} {n at : ℕ} {p : Progress} {w : Walk} (b : Bool) → Broken s n at p w
+    → Broken s n at p (cond b w (walk [] p at Running))
+with-room true t = t
+with-room false t = (_, here)
+
+-- a walk of the first records that minds the room for a line breaks off the walk of more
+first : (m k : ℕ) (s : List ℕ) (at : ℕ) (p : Progress) (room : ℕ) → Broken s (m + k) at p (walkFrom lineOf m s at p room)
+unfolding walkFrom
+first zero k s at p room = (_, here)
+first (suc m) k s at p room =
     rw suc-add
-    (one-more (λ time h. walkAll lineOf m s (at + 8) (advanced p h)) (recordOf s at) refl (λ time h. first m k s (at + 8) (advanced p h)))
+    (with-room (leb lineRoom room)
+    (one-more (λ time h. walkFrom lineOf m s (at + 8) (advanced p h) (room - length (entryOf lineOf time h))) (recordOf s at) refl
+    (λ time h. first m k s (at + 8) (advanced p h) (room - length (entryOf lineOf time h)))))
 
 -- the whole records of the first part are walked as in the whole
-first-part : (m : ℕ) (xs ys : List ℕ) (at : ℕ) (p : Progress) → at + 8 * m ≤ length xs → walkAll lineOf m (xs ++ ys) at p ≡ walkAll lineOf m xs at p
-unfolding walkAll
-first-part zero xs ys at p l = refl
-first-part (suc m) xs ys at p l =
-    let same : (time : ℕ) (h : Heard) → walkAll lineOf m (xs ++ ys) (at + 8) (advanced p h) ≡ walkAll lineOf m xs (at + 8) (advanced p h)
-    = λ time h. first-part m xs ys (at + 8) (advanced p h) (omega arith) in
+first-part : (m : ℕ) (xs ys : List ℕ) (at : ℕ) (p : Progress) (room : ℕ) → at + 8 * m ≤ length xs
+    → walkFrom lineOf m (xs ++ ys) at p room ≡ walkFrom lineOf m xs at p room
+unfolding walkFrom
+first-part zero xs ys at p room l = refl
+first-part (suc m) xs ys at p room l =
+    let same : (time : ℕ) (h : Heard)
+    → walkFrom lineOf m (xs ++ ys) (at + 8) (advanced p h) (room - length (entryOf lineOf time h))
+    ≡ walkFrom lineOf m xs (at + 8) (advanced p h) (room - length (entryOf lineOf time h))
+    = λ time h. first-part m xs ys (at + 8) (advanced p h) (room - length (entryOf lineOf time h)) (omega arith) in
     rw (with-more xs ys at (omega arith)) (simp same)
-
--- a walk of whole records that did not stop reached the end of the last of them
-record-reached : (m : ℕ) (s : List ℕ) (at : ℕ) (p : Progress) (rest : ℕ → Heard → Walk) (r : Record) → recordOf s at ≡ r
-    → at + 8 ≤ length s
-    → ((time : ℕ) (h : Heard) → rest time h .stop ≡ Running → rest time h .reached ≡ at + 8 + 8 * m)
-    → walkRecord r p at (λ time h. behind (entryOf lineOf time h) (rest time h)) .stop ≡ Running
-    → walkRecord r p at (λ time h. behind (entryOf lineOf time h) (rest time h)) .reached ≡ at + 8 * suc m
-record-reached m s at p rest (record-case.Heard time symbol) e l later h = let b = later time (hearOf (p .listener) symbol) h in omega arith
-record-reached m s at p rest record-case.End e l later h = absurd (no-end s at l e)
-record-reached m s at p rest (record-case.Refused r) e l later h = cc
-
-pub reached : (m : ℕ) (s : List ℕ) (at : ℕ) (p : Progress) → at + 8 * m ≤ length s → walkAll lineOf m s at p .stop ≡ Running
-    → walkAll lineOf m s at p .reached ≡ at + 8 * m
-unfolding walkAll
-reached zero s at p l h = omega arith
-reached (suc m) s at p l h =
-    record-reached m s at p (λ time h. walkAll lineOf m s (at + 8) (advanced p h)) (recordOf s at) refl (omega arith)
-    (λ time h. reached m s (at + 8) (advanced p h) (omega arith)) h
 
 record-shifted : (base at : ℕ) (p : Progress) (rest later : ℕ → Heard → Walk) (r : Record)
     → ((time : ℕ) (h : Heard) → rest time h ≡ fromEarlier base (later time h))
@@ -80,32 +83,31 @@ from-there : (k base : ℕ) (s : List ℕ) (p : Progress) → base ≤ length s
     → walkAll lineOf k s base p ≡ fromEarlier base (walkAll lineOf k (drop base s) 0 p)
 from-there k base s p l = rw add-zero at (shifted k base s 0 p l)
 
--- the walk of the whole records of the first part
-abbrev firstOf : List ℕ → Progress → Walk
-firstOf xs p = walkAll lineOf (recordsIn xs) xs 0 p
+-- a pass over the first part
+abbrev firstOf : List ℕ → Progress → ℕ → Walk
+firstOf xs p room = walkFrom lineOf (recordsIn xs) xs 0 p room
 
-first-of-all : (xs ys : List ℕ) (p : Progress) → Broken (xs ++ ys) (recordsIn (xs ++ ys)) 0 p (firstOf xs p)
-first-of-all xs ys p =
+first-of-all : (xs ys : List ℕ) (p : Progress) (room : ℕ) → Broken (xs ++ ys) (recordsIn (xs ++ ys)) 0 p (firstOf xs p room)
+first-of-all xs ys p room =
     let more = recordsIn (xs ++ ys) - recordsIn xs in
     let e : recordsIn (xs ++ ys) ≡ recordsIn xs + more = rw length-append (omega arith) in
-    rw (e, ← first-part (recordsIn xs) xs ys 0 p (omega arith)) (first (recordsIn xs) more (xs ++ ys) 0 p)
+    rw (e, ← first-part (recordsIn xs) xs ys 0 p room (omega arith)) (first (recordsIn xs) more (xs ++ ys) 0 p room)
 
-pub then-the-rest : (xs ys : List ℕ) (p : Progress) → firstOf xs p .stop ≡ Running
+pub then-the-rest : (xs ys : List ℕ) (p : Progress) (room : ℕ) → firstOf xs p room .stop ≡ Running
     → walkAll lineOf (recordsIn (xs ++ ys)) (xs ++ ys) 0 p
-    ≡ behind (firstOf xs p .text)
-    (fromEarlier (firstOf xs p .reached)
-    (walkAll lineOf (recordsIn (drop (firstOf xs p .reached) xs ++ ys)) (drop (firstOf xs p .reached) xs ++ ys) 0 (firstOf xs p .progress)))
-then-the-rest xs ys p h =
-    let at = firstOf xs p .reached in
-    let (left, t) = first-of-all xs ys p in
+    ≡ behind (firstOf xs p room .text)
+    (fromEarlier (firstOf xs p room .reached)
+    (walkAll lineOf (recordsIn (drop (firstOf xs p room .reached) xs ++ ys)) (drop (firstOf xs p room .reached) xs ++ ys) 0 (firstOf xs p room .progress)))
+then-the-rest xs ys p room h =
+    let at = firstOf xs p room .reached in
+    let (left, t) = first-of-all xs ys p room in
     let b = taken t in
-    let there : at ≡ 0 + 8 * recordsIn xs = reached (recordsIn xs) xs 0 p (omega arith) h in
-    let within : at ≤ length xs = omega arith in
+    let within : at ≤ length xs = omega (arith, reached lineOf (recordsIn xs) xs 0 p room .within) in
     let counts : left ≡ recordsIn (drop at xs ++ ys) = simp (length-append, length-drop) (omega (arith, length-append xs ys)) in
     rw (goes-on t h, counts, ← drop-append-le at xs ys within)
-    (ap (behind (firstOf xs p .text))
-    (from-there (recordsIn (drop at (xs ++ ys))) at (xs ++ ys) (firstOf xs p .progress) (rw length-append (omega arith))))
+    (ap (behind (firstOf xs p room .text))
+    (from-there (recordsIn (drop at (xs ++ ys))) at (xs ++ ys) (firstOf xs p room .progress) (rw length-append (omega arith))))
 
-pub already-stopped : (xs ys : List ℕ) (p : Progress) (r : Refusal) → firstOf xs p .stop ≡ Stopped r
-    → walkAll lineOf (recordsIn (xs ++ ys)) (xs ++ ys) 0 p ≡ firstOf xs p
-already-stopped xs ys p r h = has-stopped r (first-of-all xs ys p .1) h
+pub already-stopped : (xs ys : List ℕ) (p : Progress) (room : ℕ) (r : Refusal) → firstOf xs p room .stop ≡ Stopped r
+    → walkAll lineOf (recordsIn (xs ++ ys)) (xs ++ ys) 0 p ≡ firstOf xs p room
+already-stopped xs ys p room r h = has-stopped r (first-of-all xs ys p room .1) h

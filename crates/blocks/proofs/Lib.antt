@@ -1,8 +1,6 @@
 pub mod Stretch
-pub mod Room
-pub mod Records
 pub mod Cuts
-pub mod Pieces
+pub mod Reads
 pub mod Counts
 pub mod Laws
 pub mod Document

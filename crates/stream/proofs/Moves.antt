@@ -1,6 +1,6 @@
 -- Bytes moved to the front of a buffer, one after the other: those not moved yet stand where they stood.
 use mathlib.Core.Path.{_≡_, refl, sym, ap, _∙_}
-use mathlib.Core.List.{List, [], _∷_}
+use mathlib.Core.List.{List, [], _∷_, _++_}
 use Prim.Native.Nat.{ℕ, suc, _+_, _-_, _≤_, _<_}
 use native.Mathlib.Numerals.{add-one}
 use native.Mathlib.Omega.{arith}
@@ -32,4 +32,6 @@ moved {before} {input} at n i h l put =
     let there : getD input (at + i) 0 ≡ getD before (at + i) 0 =
     ap (λ (s : List ℕ). getD s (at + i) 0) (put .stored) ∙ past-sets before 0 (take i x) (at + i) (omega arith) in
     let its : getD x i 0 ≡ getD before (at + i) 0 = getD-drop at (take n before) i 0 ∙ getD-take n before (at + i) 0 (omega arith) in
-    rw (add-one i, take-suc x i 0 (omega arith), its, ← there) (put-then put (put-one input i (getD input (at + i) 0)))
+    let text : take (i + 1) x ≡ take i x ++ (getD input (at + i) 0 ∷ []) =
+    ap (λ (k : ℕ). take k x) (add-one i) ∙ take-suc x i 0 (omega arith) ∙ rw (its, there) in
+    rw text (put-then put (put-one input i (getD input (at + i) 0)))

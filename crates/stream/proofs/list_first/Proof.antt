@@ -1,56 +1,56 @@
+-- `list_first` lists the first n bytes and moves those behind what was used.
 use borrow.Author.Needs.{needs}
+use mathlib.Core.Path.{refl, ap, _∙_}
+use native.Mathlib.Nat.{sub-zero}
+use native.Mathlib.Omega.{arith}
+use lib.ListN.{length}
+use lib.Seq.{length-sets}
+use Rattle.stream.proofs.Held.{used-within, filled}
 use Rattle.stream.proofs.list_first.Statement.{statement}
 use Rattle.stream.proofs.list_first.Tie as tie
-use Rattle.stream.proofs.list_first.Reads as reads
-use Rattle.stream.proofs.list_first.Lts as lts
-use Rattle.listing.proofs.block.list_block.Reads as list-block-reads
-use Rattle.progress.proofs.placed_from.Reads as placed-from-reads
-use Rattle.std.proofs.num.wrapping_add_u64.Reads as wrapping-add-u64-reads
-use Rattle.stream.proofs.move_down.Reads as move-down-reads
 
--- src/lib.rt:49:34
 sub-list-block : tie.Need-sub-list-block
 sub-list-block c = search needs
 
--- src/lib.rt:49:34
 part-list-block-start : tie.Need-part-list-block-start
 part-list-block-start c = search needs
 
--- src/lib.rt:49:34
 part-list-block-end : tie.Need-part-list-block-end
 part-list-block-end c = search needs
 
--- src/lib.rt:49:9
 list-block-requires : tie.Need-list-block-requires
 list-block-requires c κs = search needs
 
--- src/lib.rt:53:5
 move-down-requires : tie.Need-move-down-requires
-move-down-requires c κs = search needs
+move-down-requires c κs =
+    let start = c .before .before .before .before .before .before .before .before .before .before in
+    let a = start .args in
+    (used-within (a .progress) (a .n) (a .input .now) (a .out .now) (start .pre) (rw sub-zero at (c .before .before .before .before .list-block .ensures)), start .pre)
 
--- src/lib.rt:56:15
 wrapping-add-u64-requires : tie.Need-wrapping-add-u64-requires
 wrapping-add-u64-requires c κs = search needs
 
--- src/lib.rt:57:15
 sub-t11 : tie.Need-sub-t11
-sub-t11 c = search needs
+sub-t11 c =
+    let start = c .before .before .before .before .before .before .before .before .before .before .before .before .before .before in
+    let a = start .args in
+    used-within (a .progress) (a .n) (a .input .now) (a .out .now) (start .pre) (rw sub-zero at (c .before .before .before .before .before .before .before .before .list-block .ensures))
 
--- src/lib.rt:59:15
 placed-from-requires : tie.Need-placed-from-requires
 placed-from-requires c κs = search needs
 
--- src/lib.rt:45:1
 same-length : tie.Need-same-length
 same-length c = search needs
 
--- src/lib.rt:45:1
 same-length-2 : tie.Need-same-length-2
 same-length-2 c = search needs
 
--- src/lib.rt:45:1
 returns : tie.Need-returns
-returns c = search needs
+returns c =
+    let start = c .before .before .before .before .before .before .before .before .before .before .before .before .before .before .before in
+    let a = start .args in
+    filled (a .progress) (a .n) (a .input .now) (a .out .now) (start .pre) (a .base) (rw sub-zero at (c .before .before .before .before .before .before .before .before .before .list-block .ensures)) (c .before .before .before .before .move-down .ensures)
+    (rw (c .before .wrapping-add-u64 .ensures, c .placed-from .ensures) refl)
 
 pub list-first-spec : {M : Type 1} → statement M
 list-first-spec =

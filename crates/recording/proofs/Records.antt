@@ -1,18 +1,19 @@
--- A whole record is read the same with more bytes behind it, and with the bytes before it taken away, but for a refusal's place.
+-- The end and the place of a refusal; a whole record is read the same with more bytes behind it, and with the bytes before it taken away, but for a refusal's place.
 use Prim.Native.Nat.{ℕ, _+_, _-_, _≤_, _<_}
 use native.Mathlib.Nat.{add-assoc}
 use native.Mathlib.Omega.{arith}
-use mathlib.Core.Path.{_≡_, refl}
+use mathlib.Core.Path.{_≡_, refl, sym, ap, _∙_}
 use mathlib.Core.Bool.{Bool, true, false, cond, _&&_}
 use mathlib.Core.List.{List, _++_}
 use borrow.Author.Tests.{leb-true, leb-false, eqb-true, eqb-false, le-leb, lt-leb, eq-eqb, ne-eqb}
 use lib.Dec.{leb, eqb}
 use lib.ListN.{length, getD, drop, length-append, length-drop, List·getD-append}
 use lib.Seq.{getD-drop}
+use Rattle.datagram.specs.declared.Refusal.{Refusal}
 use Rattle.datagram.specs.Refusals.{symbolAboveAt, noMark}
 use Rattle.recording.specs.declared.Record.{Record}
 use Rattle.recording.specs.declared.Record.the-variants as record-case
 use Rattle.recording.specs.Record.{recordOf, judgedRecord, byteOf, timeAt, symbolAt}
 
 whole-record : (s : List ℕ) (at : ℕ) → at + 8 ≤ length s
     → recordOf s at ≡ judgedRecord at (getD s at 0) (byteOf s at 1) (timeAt s at) (symbolAt s at)
@@ -75,3 +76,18 @@ module _ (base : ℕ) (s : List ℕ) (at : ℕ) (h : base ≤ length s) where
   without =
       let left : length s - base - at ≡ length s - (base + at) = omega arith in
       simp (length-drop, past _ refl, all _ refl, left, getD-drop, either, add-assoc)
+
+-- the place of a refusal, or this one where there is none
+abbrev placeOr : ℕ → Record → ℕ
+placeOr at (record-case.Heard time symbol) = at
+placeOr at record-case.End = at
+placeOr at (record-case.Refused r) = r .place
+
+both : (at : ℕ) (b : Bool) (r q : Record) → placeOr at r ≡ at → placeOr at q ≡ at → placeOr at (cond b r q) ≡ at
+both at true r q e f = e
+both at false r q e f = f
+
+-- a refusal's place is the offset
+pub refused-at : (s : List ℕ) (at : ℕ) (r : Refusal) → recordOf s at ≡ record-case.Refused r → r .place ≡ at
+unfolding recordOf
+refused-at s at r e = sym (ap (placeOr at) e) ∙ search both

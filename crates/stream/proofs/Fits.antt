@@ -1,0 +1,85 @@
+-- A pass puts no more text than there is room for, and so do the first line and the last ones.
+use mathlib.Core.Path.{_≡_, refl}
+use mathlib.Core.Bool.{Bool, true, false, cond}
+use mathlib.Core.List.{List, [], _++_}
+use Prim.Native.Nat.{ℕ, zero, suc, _+_, _-_, _≤_, _<_}
+use native.Mathlib.Omega.{arith}
+use borrow.Author.Tests.{ne-eqb, leb-true}
+use lib.Dec.{leb}
+use lib.ListN.{length, take, length-append}
+use Rattle.datagram.proofs.Whole.{declares}
+use Rattle.listener.specs.declared.Heard.{Heard}
+use Rattle.listener.specs.declared.Listener.{Listener}
+use Rattle.listener.specs.Answers.{isHanded}
+use Rattle.listener.specs.Step.{hearOf}
+use Rattle.listener.proofs.Handed.{hands}
+use Rattle.recording.specs.declared.Record.{Record}
+use Rattle.recording.specs.declared.Record.the-variants as record-case
+use Rattle.recording.specs.Record.{recordOf}
+use Rattle.progress.specs.declared.Progress.{Progress}
+use Rattle.progress.specs.declared.Stop.{Stop}
+use Rattle.progress.specs.declared.Stop.the-variants.{Running}
+use Rattle.progress.specs.Progress.{advanced}
+use Rattle.framing.specs.Taken.{entry}
+use Rattle.framing.specs.Walk.{Walk, walk, behind, entryOf, lineRoom, walkRecord, walkFrom}
+use Rattle.listing.specs.Text.{placed}
+use Rattle.listing.specs.Line.{lineOf, headerLine}
+use Rattle.listing.specs.Walk.{endText}
+use Rattle.listing.proofs.Decimal.{decimal-most}
+use Rattle.listing.proofs.Lines.{stop-most}
+use Rattle.listing.proofs.Short.{entry-short}
+
+-- what is handed out has a line that fits
+module _ (time symbol : ℕ) (l : Listener) where
+  abbrev h : Heard
+  h = hearOf l symbol
+
+  abbrev out : List ℕ
+  out = take (h .count) (h .bytes)
+
+  line-fits : (b : Bool) → isHanded (h .answer) ≡ b → length (cond b (lineOf time out) []) ≤ 512
+  line-fits true e =
+      let some = declares out (hands l symbol .0 e .1) in
+      let own : entry lineOf time out ≡ lineOf time out = rw (ne-eqb (length out) 0 (λ z. omega (arith, some))) in
+      rw own at (entry-short time out (omega (arith, some)))
+  line-fits false e = omega arith
+
+-- one record, if the text behind it fits in the room that is left
+record-fits : (at room : ℕ) (p : Progress) (rest : ℕ → Heard → Walk) (r : Record) → 512 ≤ room
+    → ((time : ℕ) (h : Heard) → length (rest time h .text) ≤ room - length (entryOf lineOf time h))
+    → length (walkRecord r p at (λ time h. behind (entryOf lineOf time h) (rest time h)) .text) ≤ room
+record-fits at room p rest (record-case.Heard time symbol) roomy later =
+    let h = hearOf (p .listener) symbol in
+    omega (arith, length-append (entryOf lineOf time h) (rest time h .text), later time h, line-fits time symbol (p .listener) (isHanded (h .answer)) refl)
+record-fits at room p rest record-case.End roomy later = omega arith
+record-fits at room p rest (record-case.Refused r) roomy later = omega arith
+
+with-room : (at room : ℕ) (p : Progress) (w : Walk) (b : Bool) → leb lineRoom room ≡ b → (512 ≤ room → length (w .text) ≤ room)
+    → length (cond b w (walk [] p at Running) .text) ≤ room
+with-room at room p w true e fits = fits (leb-true lineRoom room e)
+with-room at room p w false e fits = omega arith
+
+pub text-fits : (n : ℕ) (s : List ℕ) (at : ℕ) (p : Progress) (room : ℕ) → length (walkFrom lineOf n s at p room .text) ≤ room
+unfolding walkFrom
+text-fits zero s at p room = omega arith
+text-fits (suc n) s at p room =
+    with-room at room p _ (leb lineRoom room) refl
+    (λ roomy. record-fits at room p (λ time h. walkFrom lineOf n s (at + 8) (advanced p h) (room - length (entryOf lineOf time h))) (recordOf s at) roomy
+    (λ time h. text-fits n s (at + 8) (advanced p h) (room - length (entryOf lineOf time h))))
+
+end-short : (p : Progress) (stop : Stop) → length (endText p stop) ≤ 512
+end-short p stop =
+    simp length-append (omega (arith, stop-most stop, decimal-most (p .handed), decimal-most (p .cancelled), decimal-most (p .stray)))
+
+placed-fits : (text buffer : List ℕ) → length text ≤ 512 → placed text buffer .count ≤ length buffer
+placed-fits text buffer h = go (leb 512 (length buffer)) refl
+  where
+    go : (b : Bool) → leb 512 (length buffer) ≡ b → placed text buffer .count ≤ length buffer
+    go true e = rw e (omega (arith, leb-true 512 (length buffer) e))
+    go false e = rw e (omega arith)
+
+pub header-fits : (buffer : List ℕ) → placed headerLine buffer .count ≤ length buffer
+header-fits buffer = placed-fits headerLine buffer (omega arith)
+
+pub end-fits : (p : Progress) (stop : Stop) (buffer : List ℕ) → placed (endText p stop) buffer .count ≤ length buffer
+end-fits p stop buffer = placed-fits (endText p stop) buffer (end-short p stop)
