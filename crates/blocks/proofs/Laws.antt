@@ -3,7 +3,7 @@ use mathlib.Core.Path.{refl}
 use Rattle.listener.specs.Answers.{isHanded, isCancelled, isStray}
 use Rattle.blocks.specs.Laws.{BlockLaws}
 use Rattle.blocks.proofs.Counts.{all-counted}
-use Rattle.blocks.proofs.Reads.{any-reads}
+use Rattle.blocks.proofs.Pieces.{any-reads}
 
 pub block-laws : BlockLaws
 block-laws =

@@ -1,60 +1,63 @@
-// Lists a recording from standard input to standard output, block by block in constant memory.
+// Lists a recording from standard input to standard output in constant memory: it reads, lists what is held, and writes.
 use libc::EINTR;
+use libc::STDERR_FILENO;
 use libc::STDIN_FILENO;
 use libc::STDOUT_FILENO;
-use listing::block::list_block;
 use progress::Progress;
 use progress::Stop;
 use progress::begin;
-use progress::end_of;
-use progress::placed_from;
+use stream::list_held;
+use stream::put_last;
+ghost use mathlib.Core.Path.{_≡_};
 ghost use Prim.Native.Nat.{_≤_};
 ghost use lib.ListN.{length};
 
-// What is carried from read to read. The bytes not listed yet stand at the front of the input buffer.
+// What is carried from read to read: the bytes not listed yet stand at the front of the input buffer, and `base` is the
+// offset of the first of them in the whole input.
 struct Carried {
     progress: Progress,
-    held: usize,
-    // The offset of the buffer's first byte in the whole input.
     base: u64,
+    held: usize,
     going: bool,
 }
 
 fn main() {
     let mut input = [0u8; 65536];
     let mut out = [0u8; 131072];
-    let header = listing::put_header(&mut out);
-    if !put_out(&out, header) {
+    if !write_header(&mut out) {
         return;
     }
     let mut c = carrying(begin(), 0, 0, true);
-    // As many reads as a 64-bit counter can count: the loop ends at the end of the input.
+    // As many reads as a 64-bit counter can count.
     let mut left: u64 = 18446744073709551615;
     while 0 < left {
-        c = turn(c, &mut input, &mut out);
+        c = read_and_list(c, &mut input, &mut out);
         if !c.going {
             return;
         }
         left -= 1;
     }
+    say(b"buslist: standard input: more reads than can be counted\n");
 }
 
-fn carrying(progress: Progress, held: usize, base: u64, going: bool) -> Carried {
+fn carrying(progress: Progress, base: u64, held: usize, going: bool) -> Carried
+    ensures { λ r. ⌜ r .held ≡ held ⌝ }
+{
     Carried {
         progress: progress,
-        held: held,
         base: base,
+        held: held,
         going: going,
     }
 }
 
-// One read, and what it lets list.
-fn turn(c: Carried, input: &mut [u8], out: &mut [u8]) -> Carried {
+// One read, and what it lets list; the last lines where the input has ended.
+fn read_and_list(c: Carried, input: &mut [u8], out: &mut [u8]) -> Carried
+    requires { ⌜ (c .held ≤ length (now input)) × (512 ≤ length (now out)) ⌝ }
+    ensures { λ r. ⌜ r .held ≤ length (now (input .exit)) ⌝ }
+{
     let held = c.held;
     let p = c.progress;
-    if input.len() <= held {
-        return carrying(p, 0, 0, false);
-    }
     let got = libc::read(STDIN_FILENO, &mut input[held..]);
     if got < 0 {
         if os::errno() == EINTR {
@@ -63,102 +66,84 @@ fn turn(c: Carried, input: &mut [u8], out: &mut [u8]) -> Carried {
         os::fail(b"buslist: standard input");
         return carrying(p, 0, 0, false);
     }
-    let n = io::count(got, input);
+    let n = io::count(got, &input[held..]);
     if n == 0 {
-        finish(p, c.base, &input[0..held], out);
+        write_end(p, c.base, &input[0..held], out);
         return carrying(p, 0, 0, false);
     }
-    if input.len() - held < n {
-        return carrying(p, 0, 0, false);
-    }
-    list_filled(p, c.base, held + n, input, out)
+    list_all(p, c.base, held + n, input, out)
 }
 
-// Lists the whole records of the first `filled` bytes, and moves what is left to the front.
-fn list_filled(
+// Lists the first `filled` bytes until fewer than a record are left; the last lines where a record is refused.
+fn list_all(
     progress: Progress,
     base: u64,
     filled: usize,
     input: &mut [u8],
     out: &mut [u8],
 ) -> Carried
-    requires { ⌜ filled ≤ length (now input) ⌝ }
+    requires { ⌜ (filled ≤ length (now input)) × (512 ≤ length (now out)) ⌝ }
+    ensures { λ r. ⌜ r .held ≤ length (now (input .exit)) ⌝ }
 {
     let mut p = progress;
-    let mut at = 0;
-    while 8 <= filled - at {
-        let r = list_block(p, &input[at..filled], out);
+    let mut b = base;
+    let mut held = filled;
+    while 8 <= held {
+        let r = list_held(p, b, held, input, out);
         p = r.progress;
+        b = r.base;
+        held = r.held;
         let stop = r.stop;
-        let used = r.used;
         if !put_out(out, r.written) {
             return carrying(p, 0, 0, false);
         }
         if let Stop::Stopped(_) = stop {
-            let start = std::num::wrapping_add_u64(base, at as u64);
-            put_last(p, placed_from(start, stop), out);
+            let last = listing::put_end(out, p, stop);
+            put_out(out, last);
             return carrying(p, 0, 0, false);
         }
-        if used < 8 {
-            return carrying(p, 0, 0, false);
-        }
-        if filled - at < used {
-            return carrying(p, 0, 0, false);
-        }
-        at += used;
     }
-    move_down(input, at, filled);
-    carrying(
-        p,
-        filled - at,
-        std::num::wrapping_add_u64(base, at as u64),
-        true,
-    )
+    carrying(p, b, held, true)
 }
 
-// Moves the bytes from `at` to `filled` to the front; they are fewer than eight.
-fn move_down(input: &mut [u8], at: usize, filled: usize)
-    requires { ⌜ (at ≤ filled) × (filled ≤ length (now input)) ⌝ }
-{
-    let mut i = 0;
-    while i < filled - at {
-        input[i] = input[at + i];
-        i += 1;
-    }
+fn write_header(out: &mut [u8]) -> bool {
+    let n = listing::put_header(out);
+    put_out(out, n)
 }
 
-// The input has ended with these bytes not listed: none, or a record cut short.
-fn finish(progress: Progress, base: u64, rest: &[u8], out: &mut [u8]) {
-    put_last(progress, placed_from(base, end_of(rest)), out);
-}
-
-fn put_last(progress: Progress, stop: Stop, out: &mut [u8]) {
-    let n = listing::put_end(out, progress, stop);
+// The last lines where the input has ended with these bytes held.
+fn write_end(progress: Progress, base: u64, rest: &[u8], out: &mut [u8]) {
+    let n = put_last(progress, base, rest, out);
     put_out(out, n);
 }
 
-// Writes the first n bytes to standard output; says so on standard error and answers false where that fails.
-fn put_out(out: &[u8], n: usize) -> bool {
-    if out.len() < n {
-        return false;
-    }
+// Writes the first n bytes to standard output, however often a signal interrupts it; says so on standard error and answers
+// false where that fails.
+fn put_out(out: &[u8], n: usize) -> bool
+    requires { ⌜ n ≤ length (now out) ⌝ }
+{
     let mut done = 0;
-    let mut tries: u32 = 1000000;
+    let mut left: u64 = 18446744073709551615;
     while done < n {
         let put = libc::write(STDOUT_FILENO, &out[done..n]);
         let some = io::count(put, &out[done..n]);
         if some == 0 {
-            if tries == 0 {
-                return false;
-            }
             if os::errno() != EINTR {
                 os::fail(b"buslist: standard output");
                 return false;
             }
-            tries -= 1;
+            if left == 0 {
+                say(b"buslist: standard output: more interruptions than can be counted\n");
+                return false;
+            }
+            left -= 1;
         } else {
             done += some;
         }
     }
     true
+}
+
+fn say(what: &[u8]) {
+    io::write_all(STDERR_FILENO, what);
 }

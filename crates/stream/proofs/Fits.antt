@@ -1,5 +1,5 @@
 -- A pass puts no more text than there is room for, and so do the first line and the last ones.
-use mathlib.Core.Path.{_≡_, refl}
+use mathlib.Core.Path.{_≡_, refl, ap, _∙_}
 use mathlib.Core.Bool.{Bool, true, false, cond}
 use mathlib.Core.List.{List, [], _++_}
 use Prim.Native.Nat.{ℕ, zero, suc, _+_, _-_, _≤_, _<_}
@@ -7,6 +7,7 @@ use native.Mathlib.Omega.{arith}
 use borrow.Author.Tests.{ne-eqb, leb-true}
 use lib.Dec.{leb}
 use lib.ListN.{length, take, length-append}
+use lib.Seq.{sets, length-sets}
 use Rattle.datagram.proofs.Whole.{declares}
 use Rattle.listener.specs.declared.Heard.{Heard}
 use Rattle.listener.specs.declared.Listener.{Listener}
@@ -22,7 +23,7 @@ use Rattle.progress.specs.declared.Stop.the-variants.{Running}
 use Rattle.progress.specs.Progress.{advanced}
 use Rattle.framing.specs.Taken.{entry}
 use Rattle.framing.specs.Walk.{Walk, walk, behind, entryOf, lineRoom, walkRecord, walkFrom}
-use Rattle.listing.specs.Text.{placed}
+use Rattle.listing.specs.Text.{Placed, placed}
 use Rattle.listing.specs.Line.{lineOf, headerLine}
 use Rattle.listing.specs.Walk.{endText}
 use Rattle.listing.proofs.Decimal.{decimal-most}
@@ -71,15 +72,23 @@ end-short : (p : Progress) (stop : Stop) → length (endText p stop) ≤ 512
 end-short p stop =
     simp length-append (omega (arith, stop-most stop, decimal-most (p .handed), decimal-most (p .cancelled), decimal-most (p .stray)))
 
-placed-fits : (text buffer : List ℕ) → length text ≤ 512 → placed text buffer .count ≤ length buffer
-placed-fits text buffer h = go (leb 512 (length buffer)) refl
+-- what is put at the front of a buffer is no longer than the buffer
+placed-fits : (text buffer : List ℕ) {after : List ℕ} {n : ℕ} → length text ≤ 512
+    → _≡_ {A = Placed} (record { buffer = after; count = n }) (placed text buffer) → n ≤ length after
+placed-fits text buffer {after} {n} short e = go (leb 512 (length buffer)) refl
   where
-    go : (b : Bool) → leb 512 (length buffer) ≡ b → placed text buffer .count ≤ length buffer
-    go true e = rw e (omega (arith, leb-true 512 (length buffer) e))
-    go false e = rw e (omega arith)
+    go : (b : Bool) → leb 512 (length buffer) ≡ b → n ≤ length after
+    go true t =
+        let p : _≡_ {A = Placed} (record { buffer = after; count = n }) (record { buffer = sets buffer 0 text; count = length text }) = rw t at e in
+        let long : length after ≡ length buffer = ap (λ (q : Placed). length (q .buffer)) p ∙ length-sets buffer 0 text in
+        omega (arith, ap (λ (q : Placed). q .count) p, long, leb-true 512 (length buffer) t)
+    go false t =
+        let p : _≡_ {A = Placed} (record { buffer = after; count = n }) (record { buffer = buffer; count = 0 }) = rw t at e in
+        omega (arith, ap (λ (q : Placed). q .count) p)
 
-pub header-fits : (buffer : List ℕ) → placed headerLine buffer .count ≤ length buffer
-header-fits buffer = placed-fits headerLine buffer (omega arith)
+pub header-fits : (buffer : List ℕ) {after : List ℕ} {n : ℕ} → _≡_ {A = Placed} (record { buffer = after; count = n }) (placed headerLine buffer) → n ≤ length after
+header-fits buffer e = placed-fits headerLine buffer (omega arith) e
 
-pub end-fits : (p : Progress) (stop : Stop) (buffer : List ℕ) → placed (endText p stop) buffer .count ≤ length buffer
-end-fits p stop buffer = placed-fits (endText p stop) buffer (end-short p stop)
+pub end-fits : (p : Progress) (stop : Stop) (buffer : List ℕ) {after : List ℕ} {n : ℕ}
+    → _≡_ {A = Placed} (record { buffer = after; count = n }) (placed (endText p stop) buffer) → n ≤ length after
+end-fits p stop buffer e = placed-fits (endText p stop) buffer (end-short p stop) e

@@ -1,28 +1,22 @@
 -- `main` ends: each turn uses up one of the reads that a counter can count.
 use borrow.Author.Needs.{needs}
-use mathlib.Core.Path.{_≡_, _∙_}
-use Prim.Native.Nat.{ℕ}
-use lib.ListN.{length, length-replicate}
+use mathlib.Core.Path.{_≡_}
+use Prim.Native.Nat.{_≤_}
+use lib.ListN.{length}
 use Rattle.buslist.proofs.main.Statement.{statement}
 use Rattle.buslist.proofs.main.Tie as tie
 
 abbrev Inv-loop : tie.InvT-loop
-Inv-loop input₀ out₀ header c₀ left₀ input out c left = (length input ≡ 65536) × (length out ≡ 131072)
+Inv-loop input₀ out₀ c₀ left₀ t5 input out c left = (length input ≡ 65536) × (length out ≡ 131072) × (c .held ≤ 65536)
 
 abbrev μ-loop : tie.MeasureT-loop
-μ-loop input₀ out₀ header c₀ left₀ input out c left = left
+μ-loop input₀ out₀ c₀ left₀ t5 input out c left = left
 
-slice-aggregate-put-header : tie.Need-slice-aggregate-put-header Inv-loop μ-loop
-slice-aggregate-put-header c = search needs
+slice-aggregate-write-header : tie.Need-slice-aggregate-write-header Inv-loop μ-loop
+slice-aggregate-write-header c = search needs
 
-put-header-requires : tie.Need-put-header-requires Inv-loop μ-loop
-put-header-requires c κs = search needs
-
-slice-aggregate-put-out : tie.Need-slice-aggregate-put-out Inv-loop μ-loop
-slice-aggregate-put-out c = search needs
-
-put-out-requires : tie.Need-put-out-requires Inv-loop μ-loop
-put-out-requires c κs = search needs
+write-header-requires : tie.Need-write-header-requires Inv-loop μ-loop
+write-header-requires c κs = search needs
 
 returns : tie.Need-returns Inv-loop μ-loop
 returns c = search needs
@@ -34,16 +28,16 @@ carrying-requires : tie.Need-carrying-requires Inv-loop μ-loop
 carrying-requires c κs = search needs
 
 loop-holds : tie.Need-loop-holds Inv-loop μ-loop
-loop-holds c = (length-replicate {A = ℕ} 65536 0, c .before .before .before .before .before .before .put-header .kept .0 ∙ length-replicate {A = ℕ} 131072 0)
+loop-holds c = search needs
 
-slice-aggregate-turn : tie.Need-slice-aggregate-turn Inv-loop μ-loop
-slice-aggregate-turn c = search needs
+slice-aggregate-read-and-list : tie.Need-slice-aggregate-read-and-list Inv-loop μ-loop
+slice-aggregate-read-and-list c = search needs
 
-slice-aggregate-turn-2 : tie.Need-slice-aggregate-turn-2 Inv-loop μ-loop
-slice-aggregate-turn-2 c = search needs
+slice-aggregate-read-and-list-2 : tie.Need-slice-aggregate-read-and-list-2 Inv-loop μ-loop
+slice-aggregate-read-and-list-2 c = search needs
 
-turn-requires : tie.Need-turn-requires Inv-loop μ-loop
-turn-requires c κs = search needs
+read-and-list-requires : tie.Need-read-and-list-requires Inv-loop μ-loop
+read-and-list-requires c κs = search needs
 
 returns-2 : tie.Need-returns-2 Inv-loop μ-loop
 returns-2 c = search needs
@@ -57,6 +51,12 @@ loop-less c = search needs
 loop-again : tie.Need-loop-again Inv-loop μ-loop
 loop-again c = search needs
 
+slice-aggregate-say : tie.Need-slice-aggregate-say Inv-loop μ-loop
+slice-aggregate-say c = search needs
+
+say-requires : tie.Need-say-requires Inv-loop μ-loop
+say-requires c κs = search needs
+
 returns-3 : tie.Need-returns-3 Inv-loop μ-loop
 returns-3 c = search needs
 
@@ -66,19 +66,19 @@ main-spec =
     (tie.spec
     Inv-loop
     μ-loop
-    slice-aggregate-put-header
-    put-header-requires
-    slice-aggregate-put-out
-    put-out-requires
+    slice-aggregate-write-header
+    write-header-requires
     returns
     begin-requires
     carrying-requires
     loop-holds
-    slice-aggregate-turn
-    slice-aggregate-turn-2
-    turn-requires
+    slice-aggregate-read-and-list
+    slice-aggregate-read-and-list-2
+    read-and-list-requires
     returns-2
     sub-left
     loop-less
     loop-again
+    slice-aggregate-say
+    say-requires
     returns-3)

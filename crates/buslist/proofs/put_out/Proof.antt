@@ -1,17 +1,14 @@
--- `put_out` ends: each turn writes something or uses up a try.
+-- `put_out` ends: each turn writes something, or one more interruption is counted.
 use borrow.Author.Needs.{needs}
 use Prim.Native.Nat.{_+_, _-_, _≤_}
 use Rattle.buslist.proofs.put_out.Statement.{statement}
 use Rattle.buslist.proofs.put_out.Tie as tie
 
 abbrev Inv-loop : tie.InvT-loop
-Inv-loop out n done₀ tries₀ t7 done tries = done ≤ n
+Inv-loop out n done₀ left₀ t7 t8 done left = done ≤ n
 
 abbrev μ-loop : tie.MeasureT-loop
-μ-loop out n done₀ tries₀ t7 done tries = (n - done) + tries
-
-returns : tie.Need-returns Inv-loop μ-loop
-returns c = search needs
+μ-loop out n done₀ left₀ t7 t8 done left = (n - done) + left
 
 loop-holds : tie.Need-loop-holds Inv-loop μ-loop
 loop-holds c = search needs
@@ -40,9 +37,6 @@ part-count-end c = search needs
 count-requires : tie.Need-count-requires Inv-loop μ-loop
 count-requires c κs = search needs
 
-returns-2 : tie.Need-returns-2 Inv-loop μ-loop
-returns-2 c = search needs
-
 errno-requires : tie.Need-errno-requires Inv-loop μ-loop
 errno-requires c κs = search needs
 
@@ -52,11 +46,20 @@ slice-aggregate-fail c = search needs
 fail-requires : tie.Need-fail-requires Inv-loop μ-loop
 fail-requires c κs = search needs
 
-returns-3 : tie.Need-returns-3 Inv-loop μ-loop
-returns-3 c = search needs
+returns : tie.Need-returns Inv-loop μ-loop
+returns c = search needs
 
-sub-tries : tie.Need-sub-tries Inv-loop μ-loop
-sub-tries c = search needs
+slice-aggregate-say : tie.Need-slice-aggregate-say Inv-loop μ-loop
+slice-aggregate-say c = search needs
+
+say-requires : tie.Need-say-requires Inv-loop μ-loop
+say-requires c κs = search needs
+
+returns-2 : tie.Need-returns-2 Inv-loop μ-loop
+returns-2 c = search needs
+
+sub-left : tie.Need-sub-left Inv-loop μ-loop
+sub-left c = search needs
 
 loop-less : tie.Need-loop-less Inv-loop μ-loop
 loop-less c = search needs
@@ -73,8 +76,8 @@ loop-less-2 c = search needs
 loop-again-2 : tie.Need-loop-again-2 Inv-loop μ-loop
 loop-again-2 c = search needs
 
-returns-4 : tie.Need-returns-4 Inv-loop μ-loop
-returns-4 c = search needs
+returns-3 : tie.Need-returns-3 Inv-loop μ-loop
+returns-3 c = search needs
 
 pub put-out-spec : {M : Type 1} → statement M
 put-out-spec =
@@ -82,7 +85,6 @@ put-out-spec =
     (tie.spec
     Inv-loop
     μ-loop
-    returns
     loop-holds
     sub-write
     part-write-start
@@ -92,15 +94,17 @@ put-out-spec =
     part-count-start
     part-count-end
     count-requires
-    returns-2
     errno-requires
     slice-aggregate-fail
     fail-requires
-    returns-3
-    sub-tries
+    returns
+    slice-aggregate-say
+    say-requires
+    returns-2
+    sub-left
     loop-less
     loop-again
     add-done
     loop-less-2
     loop-again-2
-    returns-4)
+    returns-3)

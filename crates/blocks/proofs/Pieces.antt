@@ -117,5 +117,5 @@ unfolding listingOf
 any-reads events small h =
     let w = walked begun (recordingOf events) in
     ap (λ (text : List ℕ). headerLine ++ text)
-    (reads-from events begun 0 [] small h
+    (reads-from events begun 0 [] (omega (arith, small)) h
     ∙ ap (λ (t : Stop). w .text ++ endText (w .progress) t) (stop-from-start (endOf (w .stop) (recordingOf events) (w .reached))))
