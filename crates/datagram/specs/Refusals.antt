@@ -13,6 +13,10 @@ refusal n = refusalAt n 0
 abbrev pub symbolAbove : Refusal
 symbolAbove = refusal 1
 
+-- a symbol of a record is above 511
+abbrev pub symbolAboveAt : ℕ → Refusal
+symbolAboveAt = refusalAt (symbolAbove .number)
+
 -- a listener or sender state is not sound
 abbrev pub notSound : Refusal
 notSound = refusal 2
@@ -52,7 +56,3 @@ noMark = refusalAt 10
 -- a record is cut short
 abbrev pub cutShort : ℕ → Refusal
 cutShort = refusalAt 11
-
--- a symbol of a record is above 511
-abbrev pub symbolAboveAt : ℕ → Refusal
-symbolAboveAt = refusalAt (symbolAbove .number)

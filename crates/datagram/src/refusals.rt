@@ -8,6 +8,13 @@ pub const SYMBOL_ABOVE: Refusal = Refusal {
     place: 0,
 };
 
+// A symbol above 511 in a record.
+pub fn symbol_above_at(offset: usize) -> Refusal
+    ensures { λ r. ⌜ r ≡ symbolAboveAt offset ⌝ }
+{
+    refusal_at(SYMBOL_ABOVE.number, offset)
+}
+
 pub const NOT_SOUND: Refusal = Refusal {
     number: 2,
     place: 0,
@@ -53,16 +60,6 @@ pub const BAD_WAIT_OR_LIMIT: Refusal = Refusal {
     place: 0,
 };
 
-// A refusal of the recording reader, whose place is the record's offset.
-fn refusal_at(number: u8, offset: usize) -> Refusal
-    ensures { λ r. ⌜ r ≡ refusalAt number offset ⌝ }
-{
-    Refusal {
-        number: number,
-        place: offset as u64,
-    }
-}
-
 // A record without its mark.
 pub fn no_mark(offset: usize) -> Refusal
     ensures { λ r. ⌜ r ≡ noMark offset ⌝ }
@@ -77,9 +74,12 @@ pub fn cut_short(offset: usize) -> Refusal
     refusal_at(11, offset)
 }
 
-// A symbol above 511 in a record.
-pub fn symbol_above_at(offset: usize) -> Refusal
-    ensures { λ r. ⌜ r ≡ symbolAboveAt offset ⌝ }
+// A refusal of the recording reader, whose place is the record's offset.
+fn refusal_at(number: u8, offset: usize) -> Refusal
+    ensures { λ r. ⌜ r ≡ refusalAt number offset ⌝ }
 {
-    refusal_at(SYMBOL_ABOVE.number, offset)
+    Refusal {
+        number: number,
+        place: offset as u64,
+    }
 }
