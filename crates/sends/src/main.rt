@@ -7,8 +7,8 @@
 //   {sound}   writes whether the sender is sound                         {terms}   writes its first four bytes, wait and limit
 //   {answer}  writes the last answer again                               {just}    writes the symbol that it sends
 //   {hold}    keeps the sender and the last answer                       {back}    goes back to those
-//   {fields}  a sender of 30 00 04: phase 0 to 3, place, wait, limit, failures and the byte past it, base 16
-// Times, the wait, the limit and the source are decimal, all else is base 16. {Offer}, {Poll} and {Echo} write nothing.
+//   {fields}  a sender of 30 00 04 by the first six numbers: phase 0 to 3, place, wait, limit, failures, the byte past it
+// Times, the source, and an offer's wait and limit are decimal, all else is base 16. {Offer}, {Poll} and {Echo} write nothing.
 mod calls;
 mod numbers;
 mod text;
@@ -22,6 +22,7 @@ fn main() {
     run(&buffer[..n]);
 }
 
+// `command` is 0 in the text, then the brace, then the command's letter.
 fn run(script: &[u8]) {
     let refused = sender::offer(&[], 0, 0);
     let mut said = sender::poll(refused.sender, 0, 0);
@@ -35,30 +36,28 @@ fn run(script: &[u8]) {
         reading: false,
     };
     let mut command = 0;
-    let mut inside = false;
     let mut i = 0;
     while i < script.len() {
         let c = script[i];
         n = numbers::with(n, c);
-        if inside {
-            if c == b'}' {
-                inside = false;
-                if command == b'h' {
-                    held = said;
-                } else if command == b'b' {
-                    said = held;
-                } else {
-                    said = calls::called(command, said, n);
-                    text::told(command, said);
-                }
-            } else if command == 0 {
+        if command == 0 {
+            if c == b'{' {
                 command = c;
+            } else {
+                text::words(&[c]);
             }
-        } else if c == b'{' {
-            inside = true;
+        } else if c == b'}' {
+            if command == b'h' {
+                held = said;
+            } else if command == b'b' {
+                said = held;
+            } else {
+                said = calls::called(command, said, n);
+                text::told(command, said);
+            }
             command = 0;
-        } else {
-            text::words(&[c]);
+        } else if command == b'{' {
+            command = c;
         }
         i += 1;
     }

@@ -6,10 +6,10 @@ use Rattle.sends.proofs.run.Statement.{statement}
 use Rattle.sends.proofs.run.Tie as tie
 
 abbrev Inv-loop : tie.InvT-loop
-Inv-loop script said₀ held₀ n₀ command₀ inside₀ i₀ said held n command inside i = Unit
+Inv-loop script said₀ held₀ n₀ command₀ i₀ said held n command i = Unit
 
 abbrev μ-loop : tie.MeasureT-loop
-μ-loop script said₀ held₀ n₀ command₀ inside₀ i₀ said held n command inside i = length script - i
+μ-loop script said₀ held₀ n₀ command₀ i₀ said held n command i = length script - i
 
 slice-aggregate-offer : tie.Need-slice-aggregate-offer Inv-loop μ-loop
 slice-aggregate-offer c = search needs
@@ -29,17 +29,17 @@ shared-slice-read-c c = search needs
 with-requires : tie.Need-with-requires Inv-loop μ-loop
 with-requires c κs = search needs
 
-called-requires : tie.Need-called-requires Inv-loop μ-loop
-called-requires c κs = search needs
-
-told-requires : tie.Need-told-requires Inv-loop μ-loop
-told-requires c κs = search needs
-
 slice-aggregate-words : tie.Need-slice-aggregate-words Inv-loop μ-loop
 slice-aggregate-words c = search needs
 
 words-requires : tie.Need-words-requires Inv-loop μ-loop
 words-requires c κs = search needs
+
+called-requires : tie.Need-called-requires Inv-loop μ-loop
+called-requires c κs = search needs
+
+told-requires : tie.Need-told-requires Inv-loop μ-loop
+told-requires c κs = search needs
 
 add-i : tie.Need-add-i Inv-loop μ-loop
 add-i c = search needs
@@ -65,10 +65,10 @@ run-spec =
     loop-holds
     shared-slice-read-c
     with-requires
-    called-requires
-    told-requires
     slice-aggregate-words
     words-requires
+    called-requires
+    told-requires
     add-i
     loop-less
     loop-again
