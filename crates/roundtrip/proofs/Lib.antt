@@ -7,7 +7,7 @@ pub mod Bytes
 pub mod Decodes
 pub mod Standing
 pub mod Rewrites
-pub mod IgnoredSet
 pub mod IgnoredUnread
 pub mod Written
+pub mod WrittenBits
 pub mod RoundTrip

@@ -25,7 +25,7 @@ use Rattle.roundtrip.proofs.Written.{written, accepted}
 use Rattle.roundtrip.proofs.Decodes.{decodes}
 use Rattle.roundtrip.proofs.Standing.{all-stand}
 use Rattle.roundtrip.proofs.Rewrites.{IfRead, Back, rewrites}
-use Rattle.roundtrip.proofs.IgnoredSet.{ignored-set}
+use Rattle.roundtrip.proofs.WrittenBits.{ignored-set}
 use Rattle.roundtrip.proofs.IgnoredUnread.{ignored-unread}
 
 reads-back : (m : Message) → rangeOf m ≡ InRange → readOf (bytesOf m) ≡ Read m

@@ -1,60 +1,43 @@
-// What the program writes: numbers, bytes, symbols, and what the library answered.
+// What a command writes of the sender and of the answer.
 use libc::STDOUT_FILENO;
 use sender::Answer;
+use sender::Said;
 use sender::Sender;
-use sender::Verdict;
-ghost use Prim.Native.Nat.{_<_};
+
+const DIGITS: [u8; 16] = *b"0123456789ABCDEF";
 
 pub fn words(text: &[u8]) {
     io::write_all(STDOUT_FILENO, text);
 }
 
-pub fn decimal(n: u64) {
-    io::print_decimal(STDOUT_FILENO, n);
-}
-
-// Each byte as two digits of base 16, with a space before it.
-pub fn bytes(list: &[u8]) {
-    let mut i = 0;
-    while i < list.len() {
-        byte(list[i]);
-        i += 1;
+pub fn told(command: u8, said: Said) {
+    let s = said.sender;
+    let a = said.answer;
+    match command {
+        b'p' | b'e' | b'a' => answer(a, b"ignored"),
+        b'o' | b'k' => answer(a, b"accepted"),
+        b'j' => match a {
+            Answer::Send(sent) => symbol(sent),
+            _ => {}
+        },
+        b's' => {
+            if sender::is_sound(s) {
+                words(b"sound");
+            } else {
+                words(b"unsound");
+            }
+        }
+        b't' => terms(s),
+        _ => {}
     }
 }
 
-// The first n bytes of a list, or all where it has no more.
-pub fn first(list: &[u8], n: usize) {
-    if n < list.len() {
-        bytes(&list[0..n]);
-    } else {
-        bytes(list);
-    }
-}
-
-pub fn byte(b: u8) {
-    let n = b as u16;
-    let text = [b' ', digit(n / 16), digit(n % 16)];
-    io::write_all(STDOUT_FILENO, &text);
-}
-
-// A symbol as three digits of base 16.
-pub fn symbol(s: u16) {
-    let text = [digit(s / 256 % 16), digit(s / 16 % 16), digit(s % 16)];
-    io::write_all(STDOUT_FILENO, &text);
-}
-
-fn digit(n: u16) -> u8
-    requires { ⌜ n < 16 ⌝ }
-{
-    let d = n as u8;
-    if d < 10 { b'0' + d } else { b'A' - 10 + d }
-}
-
-pub fn answer(a: Answer) {
+// An offer that is not refused leaves the answer that nothing was done, which is told in these words.
+fn answer(a: Answer, ignored: &[u8]) {
     match a {
         Answer::Wait(n) => {
             words(b"wait ");
-            decimal(n as u64);
+            io::print_decimal(STDOUT_FILENO, n as u64);
         }
         Answer::Send(s) => {
             words(b"send ");
@@ -64,36 +47,45 @@ pub fn answer(a: Answer) {
         Answer::Done => words(b"done"),
         Answer::GaveUp => words(b"gave up"),
         Answer::WaitingAgain => words(b"waiting again"),
-        Answer::Ignored => words(b"ignored"),
-        Answer::Refused(r) => refused(r.number),
+        Answer::Ignored => words(ignored),
+        Answer::Refused(r) => {
+            words(b"refused ");
+            io::print_decimal(STDOUT_FILENO, r.number as u64);
+        }
     }
 }
 
-// A symbol that was sent, with a space before it; any other answer in words.
-pub fn sent(a: Answer) {
-    words(b" ");
-    match a {
-        Answer::Send(s) => symbol(s),
-        _ => answer(a),
-    }
+// A symbol as three digits of base 16.
+fn symbol(s: u16) {
+    words(
+        &[
+            DIGITS[(s / 256 % 16) as usize],
+            DIGITS[(s / 16 % 16) as usize],
+            DIGITS[(s % 16) as usize],
+        ],
+    );
 }
 
-pub fn verdict(v: Verdict) {
-    match v {
-        Verdict::Accepted => words(b"accepted"),
-        Verdict::Refused(r) => refused(r.number),
-    }
+// The first four bytes of the datagram, the wait and the limit.
+fn terms(s: Sender) {
+    let bytes = s.datagram;
+    byte(bytes[0]);
+    byte(bytes[1]);
+    byte(bytes[2]);
+    byte(bytes[3]);
+    words(b", wait ");
+    io::print_decimal(STDOUT_FILENO, s.wait as u64);
+    words(b", limit ");
+    io::print_decimal(STDOUT_FILENO, s.limit as u64);
 }
 
-fn refused(number: u8) {
-    words(b"refused ");
-    decimal(number as u64);
-}
-
-pub fn soundness(s: Sender) {
-    if sender::is_sound(s) {
-        words(b"sound");
-    } else {
-        words(b"unsound");
-    }
+// A byte as two digits of base 16, with a space before it.
+fn byte(b: u8) {
+    words(
+        &[
+            b' ',
+            DIGITS[(b / 16 % 16) as usize],
+            DIGITS[(b % 16) as usize],
+        ],
+    );
 }

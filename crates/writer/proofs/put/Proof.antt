@@ -277,7 +277,7 @@ unfolding bytesOf
 returns-20 c =
     let z = c .before .before .before .before .before .m20 .given .0 .1 .1 .0 in
     let e : toZ w32 (ofZ w32 z) ≡ z = search needs in
-    rw e at (c .before .before .turn .ensures) ∙ sym (ap (λ (m : Message). storeOf (bytesOf m) (now (c .before .before .before .before .before .before .before .before .args .part))) (c .before .before .before .before .before .m20 .given .1))
+    rw (c .before .before .before .before .before .m20 .given .1) (rw e at (c .before .before .turn .ensures))
 
 pub put-spec : {M : Type 1} → statement M
 put-spec =

@@ -86,8 +86,8 @@ loop-again c =
     let z = getD (a .t1 .values) (w .loop .i) (pos 0) in
     let bits : c .before .before .before .bits-of .result ≡ ofZ w32 z = rw (read-back z h, toZ-ofZ w32 z h) at (c .before .before .before .bits-of .ensures) in (
       omega arith,
-      rw (bits, w .loop .inv .1) at (c .before .before .put-word .ensures)
-          ∙ one-more fieldBytes 4 (λ z. refl) (a .t1 .values) (w .loop .i) (a .result .now) (pos 0) (omega arith) (omega arith),
+      rw (← one-more fieldBytes 4 (λ z. refl) (a .t1 .values) (w .loop .i) (a .result .now) (pos 0) (omega arith) (omega arith))
+          (rw (bits, w .loop .inv .1) at (c .before .before .put-word .ensures)),
     )
 
 same-length : tie.Need-same-length Inv-loop μ-loop
