@@ -20,7 +20,7 @@ use Rattle.framing.proofs.Reach.{reached}
 use Rattle.listing.specs.Line.{lineOf, headerLine}
 use Rattle.listing.specs.Walk.{endOf, endText, listingOf}
 use Rattle.stream.specs.Pass.{passed, passOf}
-use Rattle.blocks.specs.Laws.{Event, reads, lists, onward, textOf, unlessStopped, heldAfter, recordingOf}
+use Rattle.blocks.specs.Laws.{Event, reads, lists, onward, textOf, unlessStopped, heldAfter, noRecord, recordingOf}
 use Rattle.blocks.proofs.Cuts.{stopFrom, then-the-rest, already-stopped}
 
 -- the walk of a recording's whole records
@@ -84,12 +84,12 @@ one-pass p base s more room Running later e small so =
     ∙ sym (ap (λ (x : Walk). x .text ++ endText (x .progress) (stopFrom base (endOf (x .stop) (s ++ more) (x .reached)))) (then-the-rest s more p room e))
 
 -- what is held at the end of a pass that stopped, and of one that did not
-not-stopped : (t : Stop) (held : List ℕ) (base : ℕ) → t ≡ Running → length (unlessStopped (placedFrom base t) held) < 8 → length held < 8
+not-stopped : (t : Stop) (held : List ℕ) (base : ℕ) → t ≡ Running → noRecord (unlessStopped (placedFrom base t) held) → noRecord held
 not-stopped Running held base e h = h
 not-stopped (Stopped r) held base e h = let z : _≡_ {A = ℕ} 0 1 = cc in absurd (omega arith)
 
 reads-from : (events : List Event) (p : Progress) (base : ℕ) (held : List ℕ) → base + length held + length (recordingOf events) < 2 ^ 64
-    → length (heldAfter events p base held) < 8 → textOf events p base held ≡ textFrom p base (held ++ recordingOf events)
+    → noRecord (heldAfter events p base held) → textOf events p base held ≡ textFrom p base (held ++ recordingOf events)
 unfolding walkAll passOf
 reads-from [] p base held small h =
     let none : length held / 8 ≡ 0 = omega arith in
@@ -111,7 +111,7 @@ stop-from-start : (t : Stop) → stopFrom 0 t ≡ t
 stop-from-start Running = refl
 stop-from-start (Stopped r) = rw zero-add
 
-pub any-reads : (events : List Event) → length (recordingOf events) < 2 ^ 64 → length (heldAfter events begun 0 []) < 8
+pub any-reads : (events : List Event) → length (recordingOf events) < 2 ^ 64 → noRecord (heldAfter events begun 0 [])
     → headerLine ++ textOf events begun 0 [] ≡ listingOf (recordingOf events)
 unfolding listingOf
 any-reads events small h =

@@ -65,6 +65,10 @@ heldAfter (lists room ∷ events) p base held =
     let k : Passed = passOf p base held room in
     unlessStopped (k .stop) (heldAfter events (k .progress) (k .base) (k .rest))
 
+-- fewer bytes than a record has
+abbrev pub noRecord : List ℕ → Type 0
+noRecord held = length held < 8
+
 -- everything that is read
 abbrev pub recordingOf : List Event → List ℕ
 recordingOf [] = []
@@ -74,7 +78,7 @@ recordingOf (lists room ∷ events) = recordingOf events
 pub record BlockLaws : Type 0 where
   -- in whatever pieces a recording is read, and whatever room each pass has: if no whole record is left at the end, the text is
   -- the listing of the whole
-  pub any-reads : (events : List Event) → length (recordingOf events) < 2 ^ 64 → length (heldAfter events begun 0 []) < 8
+  pub any-reads : (events : List Event) → length (recordingOf events) < 2 ^ 64 → noRecord (heldAfter events begun 0 [])
       → headerLine ++ textOf events begun 0 [] ≡ listingOf (recordingOf events)
   -- the counts are the numbers of such answers, on 64 bits
   pub handed-counted : (n : ℕ) (s : List ℕ) (at : ℕ) (p : Progress)
