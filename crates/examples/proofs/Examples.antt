@@ -8,7 +8,7 @@ use lib.ListN.{length, getD, take, length-append, List·getD-map}
 use Rattle.datagram.proofs.Padding.{take-pad}
 use Rattle.datagram.specs.Padding.{padTo}
 use Rattle.datagram.specs.Whole.{whole}
-use Rattle.message.specs.Fields.{commandOf, fieldsOf}
+use Rattle.message.specs.Fields.{kindOf, fieldsOf}
 use Rattle.message.specs.Range.{rangeOf}
 use Rattle.message.specs.Reading.{readOf, readKind}
 use Rattle.message.specs.Table.{findOf, kinds}
@@ -17,7 +17,7 @@ use Rattle.examples.specs.Examples.{Outcome, outcomeOf, Example, example
 use Rattle.examples.specs.Rows.{refusalIn, rowOf, past, exampleAt}
 
 pub claim : Examples
-unfolding examples commandOf fieldsOf readOf readKind rangeOf findOf kinds whole
+unfolding examples kindOf fieldsOf readOf readKind rangeOf findOf kinds whole
 claim = refl
 
 -- the claim at each place; past the last, no bytes are not a whole datagram

@@ -32,7 +32,7 @@ use Rattle.roundtrip.specs.Ignored.{ignored}
 use Rattle.message.specs.Fields.{kindOf}
 use Rattle.roundtrip.proofs.Lists.{same, Lists}
 use Rattle.roundtrip.proofs.Standing.{AllStand, kept, clear, seven}
-use Rattle.roundtrip.proofs.Rows.{Each, _and_, end}
+use Rattle.message.proofs.Found.{Each, _and_, end}
 use Rattle.roundtrip.proofs.Signs.{water-spells}
 
 -- what holds of the message, if one is read

@@ -19,7 +19,8 @@ use Rattle.message.specs.Fields.{kindOf}
 use Rattle.roundtrip.proofs.Lists.{of-length}
 use Rattle.roundtrip.proofs.Bytes.{whole-datagram, all-bytes}
 use Rattle.roundtrip.proofs.Frame.{read, frame}
-use Rattle.roundtrip.proofs.Rows.{rowOf, finds, of-found}
+use Rattle.message.proofs.Found.{of-found}
+use Rattle.roundtrip.proofs.Rows.{rowOf, finds}
 use Rattle.datagram.proofs.Whole.{declares}
 use Rattle.roundtrip.proofs.Written.{written, accepted}
 use Rattle.roundtrip.proofs.Decodes.{decodes}

@@ -64,7 +64,7 @@ record NamedAs (m : Message) : Type 0 where
   message : messageOf (kindOf m) (fieldsOf m) ≡ m
 
 named-as : (m : Message) → NamedAs m
-unfolding commandOf bytesOf fieldsOf kindOf countOf flagsOf messageOf
+unfolding bytesOf fieldsOf kindOf countOf flagsOf messageOf
 named-as (Depth tenths anchor metric defective deep shallow) = record { command = refl; count = refl; flags = rw (a-flag anchor, a-flag metric, a-flag defective, a-flag deep, a-flag shallow); message = rw (as-told anchor, as-told metric, as-told defective, as-told deep, as-told shallow) }
 named-as (WindAngle halves) = record { command = refl; count = refl; flags = refl; message = refl }
 named-as (WindSpeed tenths metres) = record { command = refl; count = refl; flags = rw (a-flag metres); message = rw (as-told metres) }
