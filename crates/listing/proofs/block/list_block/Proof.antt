@@ -3,7 +3,7 @@ use borrow.Author.Needs.{needs}
 use mathlib.Core.Path.{_≡_, refl, sym, _∙_}
 use mathlib.Core.Bool.{true}
 use mathlib.Core.List.{[]}
-use mathlib.Core.Logic.{⊎-elim}
+use mathlib.Core.Logic.{inl, inr}
 use Prim.Native.Nat.{_-_, _≤_}
 use native.Mathlib.Nat.{sub-zero}
 use native.Mathlib.Omega.{arith}
@@ -45,13 +45,13 @@ stepped c =
     let v = c .before .before .before .before .before .before .loop in
     let g = c .before .before .gather in
     let long : length (g .last .1 .1 .1 .0) ≡ 18 = search needs in
-    ⊎-elim
-    (λ w.
-    let gave = g .ensures (w .0 .taken) in
-    stepped-gave (roomy c) (g .result) (gave .1) (v .inv .0 .all) long (w .0 .taken) (v .inv .1 (gave .0)) (w .2) (w .3 ∙ w .1 .ensures) (w .5) (w .6) (w .7))
-    (λ w.
-    stepped-took (roomy c) (w .1 .result) (w .1 .ensures) (omega (arith, w .3 .left)) (c .before .before .before .before .before .loop-test .taken) (w .6) (w .7) (w .8) (w .9) (w .10) (w .11))
-    (c .if2 .came)
+    elim (c .if2 .came) [
+      | inl w ↦
+          let gave = g .ensures (w .0 .taken) in
+          stepped-gave (roomy c) (g .result) (gave .1) (v .inv .0 .all) long (w .0 .taken) (v .inv .1 (gave .0)) (w .2) (w .3 ∙ w .1 .ensures) (w .5) (w .6) (w .7)
+      | inr w ↦
+          stepped-took (roomy c) (w .1 .result) (w .1 .ensures) (omega (arith, w .3 .left)) (c .before .before .before .before .before .loop-test .taken) (w .6) (w .7) (w .8) (w .9) (w .10) (w .11)
+    ]
 
 digit-pairs-requires : tie.Need-digit-pairs-requires Inv-loop μ-loop
 digit-pairs-requires c κs = search needs

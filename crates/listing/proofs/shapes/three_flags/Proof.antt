@@ -16,7 +16,7 @@ put-flags-requires : tie.Need-put-flags-requires
 put-flags-requires c κs =
     let start = c .before .before .before .before .before .before .before in
     let p = c .before .before .before .two-flagged .ensures in
-    omega (arith, p .moved, put-length p, label-length (start .args .label .now) (pos (start .args .a) ∷ pos (start .args .b) ∷ pos (num (start .args .c)) ∷ []))
+    omega (arith, p .moved, c .before .before .before .two-flagged .kept .1 .0, label-length (start .args .label .now) (pos (start .args .a) ∷ pos (start .args .b) ∷ pos (num (start .args .c)) ∷ []))
 
 returns : tie.Need-returns
 returns c =
