@@ -161,7 +161,7 @@ fn write_reading(reading: Reading) {
     match reading {
         Reading::Read(m) => {
             io::write_all(STDOUT_FILENO, b" reads ");
-            write_byte(fields::command_of(m));
+            write_byte(message::command_of(m));
             io::write_all(STDOUT_FILENO, b":");
             write_fields(fields::fields_of(m));
         }

@@ -1,25 +1,17 @@
-// A message as document 01's numbers: its command, and its fields in table order.
+// A message as document 01's numbers: its fields in table order.
 use message::Message;
 ghost use mathlib.Core.Path.{_≡_};
 ghost use mathlib.Core.List.{_∷_};
 ghost use lib.IntN.{pos};
 ghost use lib.ListN.{replicate};
 ghost use Rattle.number.specs.Word.{num};
-ghost use Rattle.message.specs.Fields.{commandOf, fieldsOf};
+ghost use Rattle.message.specs.Fields.{fieldsOf};
 ghost use Rattle.fields.specs.Array.{arrayOf};
 
 // The first `count` of `values` are the fields, flags 0 or 1; the rest are 0.
 pub struct Fields {
     pub values: [i64; 12],
     pub count: u8,
-}
-
-// The command of the message's row in the table.
-pub fn command_of(m: Message) -> u8
-    ensures { λ r. ⌜ r ≡ commandOf m ⌝ }
-{
-    let row = message::row_of(message::kind_of(m));
-    row.command
 }
 
 fn flag_value(on: bool) -> i64

@@ -4,7 +4,7 @@ pub mod range;
 use datagram::Refusal;
 ghost use mathlib.Core.Path.{_≡_};
 ghost use Rattle.message.specs.Table.{rowOf, kinds, findOf, rowAt};
-ghost use Rattle.message.specs.Fields.{kindOf};
+ghost use Rattle.message.specs.Fields.{kindOf, commandOf};
 
 // A kind of message, by its name in the table of document 01.
 pub enum Kind {
@@ -403,4 +403,12 @@ pub fn kind_of(m: Message) -> Kind
         Message::Variation { .. } => Kind::Variation,
         Message::Turn { .. } => Kind::Turn,
     }
+}
+
+// The command of the message's row in the table.
+pub fn command_of(m: Message) -> u8
+    ensures { λ r. ⌜ r ≡ commandOf m ⌝ }
+{
+    let row = row_of(kind_of(m));
+    row.command
 }

@@ -1,7 +1,7 @@
 -- `command_of` takes the row of the message's kind.
 use borrow.Author.Needs.{needs}
-use Rattle.fields.proofs.command_of.Statement.{statement}
-use Rattle.fields.proofs.command_of.Tie as tie
+use Rattle.message.proofs.command_of.Statement.{statement}
+use Rattle.message.proofs.command_of.Tie as tie
 
 kind-of-requires : tie.Need-kind-of-requires
 kind-of-requires c κs = search needs
