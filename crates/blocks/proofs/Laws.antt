@@ -1,6 +1,7 @@
 -- The laws of the listing of a recording.
 use mathlib.Core.Path.{refl}
 use Rattle.listener.specs.Answers.{isHanded, isCancelled, isStray}
+use Rattle.stream.proofs.Passes.{pass-moves}
 use Rattle.blocks.specs.Laws.{BlockLaws}
 use Rattle.blocks.proofs.Counts.{all-counted}
 use Rattle.blocks.proofs.Pieces.{any-reads}
@@ -9,6 +10,7 @@ pub block-laws : BlockLaws
 block-laws =
     record {
       any-reads = any-reads;
+      pass-moves = pass-moves;
       handed-counted = all-counted (λ p. p .handed) isHanded (λ p h. refl);
       cancelled-counted = all-counted (λ p. p .cancelled) isCancelled (λ p h. refl);
       stray-counted = all-counted (λ p. p .stray) isStray (λ p h. refl);

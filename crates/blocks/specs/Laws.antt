@@ -2,7 +2,7 @@
 use mathlib.Core.Path.{_≡_}
 use mathlib.Core.Bool.{Bool, cond}
 use mathlib.Core.List.{List, [], _∷_, _++_}
-use Prim.Native.Nat.{ℕ, zero, suc, _+_, _<_, _%_, _^_}
+use Prim.Native.Nat.{ℕ, zero, suc, _+_, _≤_, _<_, _%_, _^_}
 use lib.ListN.{length}
 use Rattle.listener.specs.declared.Answer.{Answer}
 use Rattle.listener.specs.declared.Heard.{Heard}
@@ -16,7 +16,7 @@ use Rattle.progress.specs.declared.Progress.{Progress}
 use Rattle.progress.specs.declared.Stop.{Stop}
 use Rattle.progress.specs.declared.Stop.the-variants.{Running, Stopped}
 use Rattle.progress.specs.Progress.{begun, cutOff, placedFrom}
-use Rattle.framing.specs.Walk.{walkAll}
+use Rattle.framing.specs.Walk.{lineRoom, walkAll}
 use Rattle.listing.specs.Line.{lineOf, headerLine}
 use Rattle.listing.specs.Walk.{endText, listingOf}
 use Rattle.stream.specs.Pass.{Passed, passOf}
@@ -80,6 +80,9 @@ pub record BlockLaws : Type 0 where
   -- the listing of the whole
   pub any-reads : (events : List Event) → length (recordingOf events) < 2 ^ 64 → noRecord (heldAfter events begun 0 [])
       → headerLine ++ textOf events begun 0 [] ≡ listingOf (recordingOf events)
+  -- a pass over a whole record, with room for a line, takes one or more, or stops: who lists while one is held comes to an end
+  pub pass-moves : (p : Progress) (base : ℕ) (s : List ℕ) (room : ℕ) → lineRoom ≤ room → 8 ≤ length s
+      → passOf p base s room .stop ≡ Running → length (passOf p base s room .rest) < length s
   -- the counts are the numbers of such answers, on 64 bits
   pub handed-counted : (n : ℕ) (s : List ℕ) (at : ℕ) (p : Progress)
       → walkAll lineOf n s at p .progress .handed % 2 ^ 64 ≡ (p .handed + howMany isHanded (answersIn n s at (p .listener))) % 2 ^ 64

@@ -21,6 +21,19 @@ struct Carried {
     going: bool,
 }
 
+// What a read left: how many bytes the input buffer holds, and how it went.
+struct Got {
+    filled: usize,
+    went: Went,
+}
+
+enum Went {
+    On,
+    Again,
+    Ended,
+    Failed,
+}
+
 fn main() {
     let mut input = [0u8; 65536];
     let mut out = [0u8; 131072];
@@ -28,7 +41,7 @@ fn main() {
         return;
     }
     let mut c = carrying(begin(), 0, 0, true);
-    // As many reads as a 64-bit counter can count.
+    // As many turns as a 64-bit counter can count.
     let mut left: u64 = 18446744073709551615;
     while 0 < left {
         c = read_and_list(c, &mut input, &mut out);
@@ -37,7 +50,7 @@ fn main() {
         }
         left -= 1;
     }
-    say(b"buslist: standard input: more reads than can be counted\n");
+    say(b"buslist: standard input: more to read than can be counted\n");
 }
 
 fn carrying(progress: Progress, base: u64, held: usize, going: bool) -> Carried
@@ -51,59 +64,81 @@ fn carrying(progress: Progress, base: u64, held: usize, going: bool) -> Carried
     }
 }
 
-// One read, and what it lets list; the last lines where the input has ended.
+// One turn: what is read is listed, and the last lines follow where the input has ended.
 fn read_and_list(c: Carried, input: &mut [u8], out: &mut [u8]) -> Carried
-    requires { ⌜ (c .held ≤ length (now input)) × (512 ≤ length (now out)) ⌝ }
+    requires { ⌜ c .held ≤ length (now input) ⌝ }
     ensures { λ r. ⌜ r .held ≤ length (now (input .exit)) ⌝ }
 {
-    let held = c.held;
     let p = c.progress;
-    let got = libc::read(STDIN_FILENO, &mut input[held..]);
-    if got < 0 {
-        if os::errno() == EINTR {
-            return c;
+    let g = read_some(c.held, input);
+    let filled = g.filled;
+    let went = g.went;
+    match went {
+        Went::On => list_and_write(p, c.base, filled, input, out),
+        Went::Again => carrying(p, c.base, filled, true),
+        Went::Ended => {
+            write_end(p, c.base, &input[0..filled], out);
+            carrying(p, 0, 0, false)
         }
-        os::fail(b"buslist: standard input");
-        return carrying(p, 0, 0, false);
+        Went::Failed => carrying(p, 0, 0, false),
     }
-    let n = io::count(got, &input[held..]);
-    if n == 0 {
-        write_end(p, c.base, &input[0..held], out);
-        return carrying(p, 0, 0, false);
-    }
-    list_all(p, c.base, held + n, input, out)
 }
 
-// Lists the first `filled` bytes until fewer than a record are left; the last lines where a record is refused.
-fn list_all(
+// Reads behind the bytes held, unless a whole record is held, for whose text there was no room.
+fn read_some(held: usize, input: &mut [u8]) -> Got
+    requires { ⌜ held ≤ length (now input) ⌝ }
+    ensures { λ r. ⌜ r .filled ≤ length (now (input .exit)) ⌝ }
+{
+    if 8 <= held {
+        return filled_to(held, Went::On);
+    }
+    let count = libc::read(STDIN_FILENO, &mut input[held..]);
+    if count < 0 {
+        if os::errno() == EINTR {
+            return filled_to(held, Went::Again);
+        }
+        os::fail(b"buslist: standard input");
+        return filled_to(held, Went::Failed);
+    }
+    let n = io::count(count, &input[held..]);
+    if n == 0 {
+        return filled_to(held, Went::Ended);
+    }
+    filled_to(held + n, Went::On)
+}
+
+fn filled_to(filled: usize, went: Went) -> Got
+    ensures { λ r. ⌜ r .filled ≡ filled ⌝ }
+{
+    Got {
+        filled: filled,
+        went: went,
+    }
+}
+
+// Lists the first `filled` bytes and writes the text; the last lines too where a record is refused.
+fn list_and_write(
     progress: Progress,
     base: u64,
     filled: usize,
     input: &mut [u8],
     out: &mut [u8],
 ) -> Carried
-    requires { ⌜ (filled ≤ length (now input)) × (512 ≤ length (now out)) ⌝ }
+    requires { ⌜ filled ≤ length (now input) ⌝ }
     ensures { λ r. ⌜ r .held ≤ length (now (input .exit)) ⌝ }
 {
-    let mut p = progress;
-    let mut b = base;
-    let mut held = filled;
-    while 8 <= held {
-        let r = list_held(p, b, held, input, out);
-        p = r.progress;
-        b = r.base;
-        held = r.held;
-        let stop = r.stop;
-        if !put_out(out, r.written) {
-            return carrying(p, 0, 0, false);
-        }
-        if let Stop::Stopped(_) = stop {
-            let last = listing::put_end(out, p, stop);
-            put_out(out, last);
-            return carrying(p, 0, 0, false);
-        }
+    let r = list_held(progress, base, filled, input, out);
+    let p = r.progress;
+    let stop = r.stop;
+    if !put_out(out, r.written) {
+        return carrying(p, 0, 0, false);
     }
-    carrying(p, b, held, true)
+    if let Stop::Stopped(_) = stop {
+        let last = listing::put_end(out, p, stop);
+        put_out(out, last);
+        return carrying(p, 0, 0, false);
+    }
+    carrying(p, r.base, r.held, true)
 }
 
 fn write_header(out: &mut [u8]) -> bool {

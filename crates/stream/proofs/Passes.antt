@@ -1,4 +1,4 @@
--- What a caller may count on after a pass: the text fits, and where it did not stop fewer bytes are held than before.
+-- What a caller may count on after a pass: the text fits, and where it did not stop and a whole record was held fewer bytes are.
 use mathlib.Core.Path.{_≡_, refl, sym, ap, _∙_}
 use mathlib.Core.List.{List}
 use Prim.Native.Nat.{ℕ, suc, _+_, _-_, _/_, _≤_, _<_}
@@ -9,7 +9,7 @@ use Rattle.progress.specs.declared.Progress.{Progress}
 use Rattle.progress.specs.declared.Stop.{Stop}
 use Rattle.progress.specs.declared.Stop.the-variants.{Running, Stopped}
 use Rattle.progress.specs.Progress.{placedFrom}
-use Rattle.framing.specs.Walk.{Walk, walkFrom, recordsIn}
+use Rattle.framing.specs.Walk.{Walk, lineRoom, walkFrom, recordsIn}
 use Rattle.framing.proofs.Reach.{moves}
 use Rattle.listing.specs.Line.{lineOf}
 use Rattle.stream.specs.declared.Pass as code
@@ -46,13 +46,14 @@ module _ (p : Progress) (base n : ℕ) (input₀ out₀ : List ℕ) {input₁ ou
   pub held-within : r .held ≤ n
   held-within = omega (arith, held-is)
 
-  pub held-falls : 512 ≤ length out₀ → 8 ≤ n → r .stop ≡ Running → r .held < n
-  unfolding passOf
-  held-falls roomy some e =
-      let long : length s ≡ n = length-take-le n input₀ h in
-      let more : recordsIn s ≡ suc (recordsIn s - 1) = omega (arith, long) in
-      let on : w .stop ≡ Running = running base (w .stop) (sym (ap (λ (q : code.Pass). q .stop) (f .answered)) ∙ e) in
-      let over : 0 + 8 ≤ walkFrom lineOf (suc (recordsIn s - 1)) s 0 p (length out₀) .reached =
-      moves lineOf (recordsIn s - 1) s 0 p (length out₀) roomy (omega (arith, long)) (ap (λ (k : ℕ). walkFrom lineOf k s 0 p (length out₀) .stop) (sym more) ∙ on) in
-      let same : walkFrom lineOf (suc (recordsIn s - 1)) s 0 p (length out₀) .reached ≡ w .reached = ap (λ (k : ℕ). walkFrom lineOf k s 0 p (length out₀) .reached) (sym more) in
-      omega (arith, held-is, over, same)
+-- a pass over a whole record, with room for a line, takes one or more, or stops
+pub pass-moves : (p : Progress) (base : ℕ) (s : List ℕ) (room : ℕ) → lineRoom ≤ room → 8 ≤ length s → passOf p base s room .stop ≡ Running
+    → length (passOf p base s room .rest) < length s
+unfolding passOf
+pass-moves p base s room roomy some e =
+    let w = walkFrom lineOf (recordsIn s) s 0 p room in
+    let more : recordsIn s ≡ suc (recordsIn s - 1) = omega arith in
+    let same : walkFrom lineOf (suc (recordsIn s - 1)) s 0 p room ≡ w = ap (λ (k : ℕ). walkFrom lineOf k s 0 p room) (sym more) in
+    let over : 0 + 8 ≤ walkFrom lineOf (suc (recordsIn s - 1)) s 0 p room .reached =
+    moves lineOf (recordsIn s - 1) s 0 p room roomy (omega arith) (ap (λ (x : Walk). x .stop) same ∙ running base (w .stop) e) in
+    omega (arith, length-drop (w .reached) s, over, ap (λ (x : Walk). x .reached) same)

@@ -1,5 +1,10 @@
 -- `put_last` puts the end that the bytes left tell, at its place in the whole recording.
 use borrow.Author.Needs.{needs}
+use mathlib.Core.Path.{ap, _∙_}
+use Rattle.progress.specs.declared.Stop.{Stop}
+use Rattle.progress.specs.Progress.{placedFrom}
+use Rattle.listing.specs.Text.{placed}
+use Rattle.listing.specs.Walk.{endText}
 use Rattle.stream.proofs.put_last.Statement.{statement}
 use Rattle.stream.proofs.put_last.Tie as tie
 
@@ -17,7 +22,10 @@ same-length c = search needs
 
 returns : tie.Need-returns
 returns c =
-    rw (← c .before .before .before .before .end-of .ensures, ← c .before .before .before .placed-from .ensures) (c .before .before .put-end .ensures)
+    let a = c .before .before .before .before .before .before .before .before .args in
+    c .before .before .put-end .ensures
+    ∙ ap (λ (stop : Stop). placed (endText (a .progress) stop) (a .out .now))
+    (c .before .before .before .placed-from .ensures ∙ ap (placedFrom (a .base)) (c .before .before .before .before .end-of .ensures))
 
 pub put-last-spec : {M : Type 1} → statement M
 put-last-spec =
