@@ -1,7 +1,7 @@
 -- A recording read in any pieces and listed in any passes: the text is that of the whole.
 use mathlib.Core.Path.{_≡_, refl, sym, ap, _∙_}
 use mathlib.Core.List.{List, [], _∷_, _++_, append-assoc, append-nil}
-use Prim.Native.Nat.{ℕ, _+_, _-_, _*_, _/_, _%_, _^_, _≤_, _<_}
+use Prim.Native.Nat.{ℕ, _+_, _-_, _/_, _%_, _^_, _≤_, _<_}
 use native.Mathlib.Nat.{add-assoc, zero-add}
 use native.Mathlib.Omega.{arith}
 use lib.ListN.{length, drop, length-append, length-drop}
@@ -19,7 +19,7 @@ use Rattle.framing.specs.Walk.{Walk, walkFrom, walkAll, recordsIn}
 use Rattle.framing.proofs.Reach.{reached}
 use Rattle.listing.specs.Line.{lineOf, headerLine}
 use Rattle.listing.specs.Walk.{endOf, endText, listingOf}
-use Rattle.stream.specs.Pass.{passed, passOf}
+use Rattle.stream.specs.Pass.{passOf}
 use Rattle.blocks.specs.Laws.{Event, reads, lists, onward, textOf, unlessStopped, heldAfter, noRecord, recordingOf}
 use Rattle.blocks.proofs.Cuts.{stopFrom, then-the-rest, already-stopped}
 

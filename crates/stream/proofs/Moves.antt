@@ -1,5 +1,5 @@
 -- Bytes moved to the front of a buffer, one after the other: those not moved yet stand where they stood.
-use mathlib.Core.Path.{_≡_, refl, sym, ap, _∙_}
+use mathlib.Core.Path.{_≡_, refl, ap, _∙_}
 use mathlib.Core.List.{List, [], _∷_, _++_}
 use Prim.Native.Nat.{ℕ, suc, _+_, _-_, _≤_, _<_}
 use native.Mathlib.Numerals.{add-one}
@@ -7,7 +7,7 @@ use native.Mathlib.Omega.{arith}
 use lib.ListN.{length, getD, set, take, drop, length-drop}
 use lib.Seq.{sets, take-suc, getD-drop, getD-take, getD-set-other, length-take-le}
 use Rattle.listing.specs.Text.{Put}
-use Rattle.listing.proofs.Put.{put-then, put-one, put-length}
+use Rattle.listing.proofs.Put.{put-then, put-one}
 
 past-sets : (l : List ℕ) (i : ℕ) (vs : List ℕ) (j : ℕ) → i + length vs ≤ j → getD (sets l i vs) j 0 ≡ getD l j 0
 past-sets l i [] j h = refl

@@ -1,10 +1,7 @@
 -- `list_first` lists the first n bytes and moves those behind what was used.
 use borrow.Author.Needs.{needs}
-use mathlib.Core.Path.{refl, ap, _∙_}
+use mathlib.Core.Path.{refl}
 use native.Mathlib.Nat.{sub-zero}
-use native.Mathlib.Omega.{arith}
-use lib.ListN.{length}
-use lib.Seq.{length-sets}
 use Rattle.stream.proofs.Held.{used-within, filled}
 use Rattle.stream.proofs.list_first.Statement.{statement}
 use Rattle.stream.proofs.list_first.Tie as tie
