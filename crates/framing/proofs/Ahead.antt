@@ -1,4 +1,4 @@
--- Records ahead of an idle listener: a stray, a datagram that a command symbol cancels, or a datagram that is handed out at
+-- Records ahead of an empty listener: a stray, a datagram that a command symbol cancels, or a datagram that is handed out at
 -- the last of them. The first records of a datagram are kept one by one.
 use mathlib.Core.Path.{_≡_, refl, sym, ap, _∙_}
 use mathlib.Core.Bool.{Bool, true, false, cond}
@@ -13,7 +13,7 @@ use lib.Seq.{take-suc, getD-take, length-take-le}
 use Rattle.datagram.specs.Whole.{declared}
 use Rattle.datagram.specs.Padding.{padTo}
 use Rattle.datagram.proofs.Padding.{take-pad}
-use Rattle.listener.specs.State.{holding}
+use Rattle.listener.specs.State.{holding, emptyListener}
 use Rattle.listener.specs.Step.{hearOf, commandSymbol, otherSymbol, reaching, handed, quiet}
 use Rattle.listener.specs.declared.Listener.{Listener}
 use Rattle.listener.specs.declared.Heard.{Heard}
@@ -51,21 +51,21 @@ module _ (line : Line) (s : List ℕ) (at left room : ℕ) (some : 0 < left) (ro
       ∙ rw (none, sub-zero)
 
   -- a stray
-  pub walk-stray : (p : Progress) (b : ℕ) → b < 256 → recordOf s at ≡ record-case.Heard time b → p .listener ≡ holding []
+  pub walk-stray : (p : Progress) (b : ℕ) → b < 256 → recordOf s at ≡ record-case.Heard time b → p .listener ≡ emptyListener
       → walkFrom line left s at p room ≡ walkFrom line (left - 1) s (at + 8) (tallied p false false true) room
-  walk-stray p b low heard idle =
-      quietly p b (quiet Stray (holding [])) heard (ap (λ (l : Listener). hearOf l b) idle ∙ on-other [] b (omega arith) low) refl
-      ∙ rw idle
+  walk-stray p b low heard empty =
+      quietly p b (quiet Stray emptyListener) heard (ap (λ (l : Listener). hearOf l b) empty ∙ on-other [] b (omega arith) low) refl
+      ∙ rw empty
 
   -- a command symbol where something is held: as where nothing is, with one datagram more cancelled
   walk-over : (p : Progress) (xs : List ℕ) (b : ℕ) → b < 256 → recordOf s at ≡ record-case.Heard time (256 + b)
       → p .listener ≡ holding xs → 0 < length xs → Unfinished xs
       → walkFrom line left s at p room
-      ≡ walkFrom line left s at (record { listener = holding []; handed = p .handed; cancelled = counted true (p .cancelled); stray = p .stray }) room
+      ≡ walkFrom line left s at (record { listener = emptyListener; handed = p .handed; cancelled = counted true (p .cancelled); stray = p .stray }) room
   walk-over p xs b low heard held long u =
       quietly p (256 + b) (quiet Cancelled (holding (b ∷ []))) heard
       (ap (λ (l : Listener). hearOf l (256 + b)) held ∙ on-command xs b u low ∙ command-cancels xs b long) refl
-      ∙ sym (quietly (record { listener = holding []; handed = p .handed; cancelled = counted true (p .cancelled); stray = p .stray }) (256 + b) (quiet Opened (holding (b ∷ []))) heard (on-command [] b (omega arith) low) refl)
+      ∙ sym (quietly (record { listener = emptyListener; handed = p .handed; cancelled = counted true (p .cancelled); stray = p .stray }) (256 + b) (quiet Opened (holding (b ∷ []))) heard (on-command [] b (omega arith) low) refl)
 
 -- the first m of the n records of a datagram are gathered
 module _ (s : List ℕ) (at m n : ℕ) (bytes : List ℕ) (g : Gathering s at bytes m) (size : n ≡ declared (byteOf s at 14)) (within : m ≤ n) where
@@ -93,14 +93,14 @@ module _ (s : List ℕ) (at m n : ℕ) (bytes : List ℕ) (g : Gathering s at by
   tested i l h t e =
       rw (taken (suc i) h, getD-take (suc i) bytes 1 0 (omega arith), ← second (omega arith), e)
 
-  module _ (line : Line) (p : Progress) (left room : ℕ) (fits : m ≤ left) (roomy : 512 ≤ room) (idle : p .listener ≡ holding []) where
+  module _ (line : Line) (p : Progress) (left room : ℕ) (fits : m ≤ left) (roomy : 512 ≤ room) (empty : p .listener ≡ emptyListener) where
     -- the progress with the first bytes held
     abbrev having : ℕ → Progress
     having i = record { listener = holding (take i bytes); handed = p .handed; cancelled = p .cancelled; stray = p .stray }
 
     opened : hearOf (p .listener) (256 + getD bytes 0 0) ≡ quiet Opened (holding (take 1 bytes))
     opened =
-        ap (λ (l : Listener). hearOf l (256 + getD bytes 0 0)) idle
+        ap (λ (l : Listener). hearOf l (256 + getD bytes 0 0)) empty
         ∙ on-command [] (getD bytes 0 0) (omega arith) (g .first)
         ∙ ap (λ (xs : List ℕ). quiet Opened (holding xs)) (sym (take-suc bytes 0 0 (omega (arith, g .long))))
 
@@ -140,7 +140,7 @@ module _ (s : List ℕ) (at m n : ℕ) (bytes : List ℕ) (g : Gathering s at by
         so-far k some (omega arith) (omega arith)
         ∙ walk-heard line s (at + 8 * k) (having k) (left - k) room (omega arith) (timeAt s (at + 8 * k)) (getD bytes k 0) roomy (g .follows k some below .2)
         ∙ ap (goes-on line s room (left - k - 1) (at + 8 * k + 8) (timeAt s (at + 8 * k)) (having k)) (last k some below end)
-        ∙ rw (all, less, next, idle)
+        ∙ rw (all, less, next, empty)
 
     -- a command symbol before the datagram is whole
     pub walk-cancelled : 0 < m → m < n → m < left → (time b : ℕ) → b < 256 → recordOf s (at + 8 * m) ≡ record-case.Heard time (256 + b)
@@ -148,4 +148,4 @@ module _ (s : List ℕ) (at m n : ℕ) (bytes : List ℕ) (g : Gathering s at by
     walk-cancelled l h more time b low heard =
         so-far m l (omega arith) h
         ∙ walk-over line s (at + 8 * m) (left - m) room (omega arith) roomy time (having m) (take m bytes) b low heard refl (omega (arith, taken m (omega arith))) (unfinished m l (omega arith) h)
-        ∙ rw idle
+        ∙ rw empty

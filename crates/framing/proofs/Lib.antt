@@ -1,5 +1,5 @@
 pub mod Gathering
 pub mod Walks
 pub mod Ahead
-pub mod Takes
+pub mod Steps
 pub mod Reach

@@ -9,7 +9,7 @@ ghost use mathlib.Core.Bool.{true, false};
 ghost use Prim.Native.Nat.{_+_, _*_, _≤_, _<_};
 ghost use lib.ListN.{length};
 ghost use Rattle.recording.specs.Record.{recordOf, timeAt, byteOf};
-ghost use Rattle.framing.specs.Taken.{Took, Gave};
+ghost use Rattle.framing.specs.Steps.{RecordStep, GatherStep};
 
 // What the records ahead give to a listener that holds nothing: how many they are, how many bytes they hand out, the time of
 // the last of them, and what else is counted. None is used where they have to be heard one by one.
@@ -23,7 +23,7 @@ pub struct Gathered {
 
 // What one record gave: the progress after it, its time, and the bytes that it handed out. None is used at the end, or
 // where the record is refused.
-pub struct Taken {
+pub struct HeardRecord {
     pub progress: Progress,
     pub used: usize,
     pub time: u32,
@@ -33,8 +33,8 @@ pub struct Taken {
 }
 
 // Hears the record at an offset.
-pub fn hear_record(p: Progress, input: &[u8], at: usize) -> Taken
-    ensures { λ r. ⌜ Took (now (input .entry)) at p r ⌝ }
+pub fn hear_record(p: Progress, input: &[u8], at: usize) -> HeardRecord
+    ensures { λ r. ⌜ RecordStep (now (input .entry)) at p r ⌝ }
 {
     match recording::record_at(input, at) {
         Record::End => stopped(p, Stop::Running),
@@ -42,7 +42,7 @@ pub fn hear_record(p: Progress, input: &[u8], at: usize) -> Taken
         Record::Heard { time, symbol } => {
             let h = listener::hear(p.listener, symbol);
             let bytes = h.bytes;
-            Taken {
+            HeardRecord {
                 progress: advance(p, h),
                 used: 1,
                 time: time,
@@ -54,10 +54,10 @@ pub fn hear_record(p: Progress, input: &[u8], at: usize) -> Taken
     }
 }
 
-fn stopped(progress: Progress, stop: Stop) -> Taken
+fn stopped(progress: Progress, stop: Stop) -> HeardRecord
     ensures { λ r. ⌜ (r .progress ≡ progress) × (r .used ≡ 0) × (r .count ≡ 0) × (r .stop ≡ stop) ⌝ }
 {
-    Taken {
+    HeardRecord {
         progress: progress,
         used: 0,
         time: 0,
@@ -87,11 +87,11 @@ fn carries(input: &[u8], at: usize, command: u8) -> bool
 }
 
 // What the records from an offset on give: the bytes of a datagram that lies whole in them, which are stored, a datagram
-// that a command symbol cancels, or a stray symbol; nothing where there is something else, or the listener is not idle.
-pub fn gather(idle: bool, input: &[u8], at: usize, bytes: &mut [u8]) -> Gathered
-    ensures { λ r. ⌜ (0 < r .used → (idle ≡ true) × Gave (now (input .entry)) at (now (bytes .exit)) r) ⌝ }
+// that a command symbol cancels, or a stray symbol; nothing where there is something else, or the listener is not empty.
+pub fn gather(empty: bool, input: &[u8], at: usize, bytes: &mut [u8]) -> Gathered
+    ensures { λ r. ⌜ (0 < r .used → (empty ≡ true) × GatherStep (now (input .entry)) at (now (bytes .exit)) r) ⌝ }
 {
-    if !idle {
+    if !empty {
         return gives(0, 0, 0, false, false);
     }
     if bytes.len() != 18 {

@@ -14,14 +14,14 @@ use Rattle.listener.specs.declared.Answer.{Answer}
 use Rattle.listener.specs.declared.Answer.the-variants.{Opened, Cancelled, Stray, Kept, Refused}
 use Rattle.listener.specs.declared.Heard.{Heard}
 use Rattle.listener.specs.Answers.{isHanded}
-use Rattle.listener.specs.State.{sound, heldBytes, holding}
+use Rattle.listener.specs.State.{sound, heldBytes, holding, emptyListener}
 use Rattle.listener.specs.Step.{hearOf, step, quiet, commandSymbol, otherSymbol, reaching, refusedBy}
 use Rattle.datagram.specs.Refusals.{symbolAbove, notSound}
 
 -- what is handed out is at most 18 bytes and whole, and leaves nothing held; else nothing is
 abbrev Hands : Heard → Type 0
 Hands h =
-    (isHanded (h .answer) ≡ true → (h .count ≤ 18) × (whole (take (h .count) (h .bytes)) ≡ true) × (h .listener ≡ holding []))
+    (isHanded (h .answer) ≡ true → (h .count ≤ 18) × (whole (take (h .count) (h .bytes)) ≡ true) × (h .listener ≡ emptyListener))
     × (isHanded (h .answer) ≡ false → h .count ≡ 0)
 
 pub declared-whole : (xs : List ℕ) → length xs ≡ declared (getD xs 1 0) → whole xs ≡ true
@@ -29,23 +29,23 @@ unfolding whole
 declared-whole xs e =
     rw (le-leb 3 (length xs) (omega arith), le-leb (length xs) 18 (omega arith), eq-eqb (length xs) (declared (getD xs 1 0)) e)
 
-silent : (answer : Answer) (l : Listener) → isHanded answer ≡ false → Hands (quiet answer l)
-silent answer l e = (λ h. absurd (false≢true (sym e ∙ h)), λ f. refl)
+hands-nothing : (answer : Answer) (l : Listener) → isHanded answer ≡ false → Hands (quiet answer l)
+hands-nothing answer l e = (λ h. absurd (false≢true (sym e ∙ h)), λ f. refl)
 
 reached : (xs : List ℕ) (t : Bool) → eqb (length xs) (declared (getD xs 1 0)) ≡ t → Hands (reaching xs)
 reached xs true e =
     let full : length xs ≡ declared (getD xs 1 0) = eqb-true (length xs) (declared (getD xs 1 0)) e in
     rw e (λ h. (omega arith, rw (take-pad 18 xs) (declared-whole xs full), refl), λ f. absurd (false≢true (sym f)))
-reached xs false e = rw e (silent Kept (holding xs) refl)
+reached xs false e = rw e (hands-nothing Kept (holding xs) refl)
 
 other : (xs : List ℕ) (b : ℕ) → Hands (otherSymbol xs b)
-other [] b = silent Stray (holding []) refl
+other [] b = hands-nothing Stray emptyListener refl
 other (x ∷ xs) b =
     let all = (x ∷ xs) ++ (b ∷ []) in reached all (eqb (length all) (declared (getD all 1 0))) refl
 
 command : (xs : List ℕ) (b : ℕ) → Hands (commandSymbol xs b)
-command [] b = silent Opened (holding (b ∷ [])) refl
-command (x ∷ xs) b = silent Cancelled (holding (b ∷ [])) refl
+command [] b = hands-nothing Opened (holding (b ∷ [])) refl
+command (x ∷ xs) b = hands-nothing Cancelled (holding (b ∷ [])) refl
 
 either : (t : Bool) (g h : Heard) → Hands g → Hands h → Hands (cond t g h)
 either true g h a b = a
@@ -54,7 +54,7 @@ either false g h a b = b
 pub hands : (l : Listener) (s : ℕ) → Hands (hearOf l s)
 unfolding hearOf step
 hands l s =
-    either (ltb 511 s) (refusedBy symbolAbove l) (cond (sound l) (step (heldBytes l) s) (refusedBy notSound l)) (silent (Refused symbolAbove) l refl)
+    either (ltb 511 s) (refusedBy symbolAbove l) (cond (sound l) (step (heldBytes l) s) (refusedBy notSound l)) (hands-nothing (Refused symbolAbove) l refl)
     (either (sound l) (step (heldBytes l) s) (refusedBy notSound l)
     (either (leb 256 s) (commandSymbol (heldBytes l) (s - 256)) (otherSymbol (heldBytes l) s) (command (heldBytes l) (s - 256))
-    (other (heldBytes l) s)) (silent (Refused notSound) l refl))
+    (other (heldBytes l) s)) (hands-nothing (Refused notSound) l refl))

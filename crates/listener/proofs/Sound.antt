@@ -12,7 +12,7 @@ use Rattle.datagram.specs.Whole.{declared}
 use Rattle.datagram.specs.Padding.{padTo, allZero}
 use Rattle.datagram.proofs.Padding.{getD-pad, take-pad, drop-pad}
 use Rattle.listener.specs.declared.Listener.{Listener}
-use Rattle.listener.specs.State.{sound, empty, heldBytes, holding}
+use Rattle.listener.specs.State.{sound, empty, heldBytes, holding, emptyListener}
 
 module _ (held second : ℕ) (zeros : Bool) where
   one-test : (short two : Bool) → ltb held (declared second) ≡ short → leb 2 held ≡ two → leb held 17 && (zeros && cond two short true) ≡ short && zeros
@@ -67,7 +67,7 @@ held-by l long s =
 pub holding-held : (l : Listener) → Held l → holding (heldBytes l) ≡ l
 holding-held l k = rw (k .count, ← k .array)
 
-pub empty-is : (l : Listener) → length (l .bytes) ≡ 17 → empty l ≡ true → l ≡ holding []
+pub empty-is : (l : Listener) → length (l .bytes) ≡ 17 → empty l ≡ true → l ≡ emptyListener
 unfolding empty
 empty-is l long e =
     let parts = and-eq-true-iff (sound l) (eqb (l .held) 0) .0 e in

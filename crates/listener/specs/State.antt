@@ -1,7 +1,7 @@
 -- What a listener holds, and when its state is sound or empty.
 use Prim.Native.Nat.{ℕ}
 use mathlib.Core.Bool.{Bool, true, _&&_, cond}
-use mathlib.Core.List.{List}
+use mathlib.Core.List.{List, []}
 use lib.Dec.{leb, ltb, eqb}
 use lib.ListN.{length, getD, take, drop}
 use Rattle.datagram.specs.Whole.{declared}
@@ -15,6 +15,10 @@ heldBytes l = take (l .held) (l .bytes)
 -- the state that holds these bytes, and zeros past them
 abbrev pub holding : List ℕ → Listener
 holding xs = record { bytes = padTo 17 xs; held = length xs }
+
+-- the empty state: nothing held
+abbrev pub emptyListener : Listener
+emptyListener = holding []
 
 -- with two or more held, fewer are held than the second declares
 abbrev pub unfinished : Listener → Bool

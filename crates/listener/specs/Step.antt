@@ -12,7 +12,7 @@ use Rattle.listener.specs.declared.Listener.{Listener}
 use Rattle.listener.specs.declared.Answer.{Answer}
 use Rattle.listener.specs.declared.Answer.the-variants.{Opened, Cancelled, Stray, Kept, HandedOut, Refused}
 use Rattle.listener.specs.declared.Heard.{Heard}
-use Rattle.listener.specs.State.{sound, heldBytes, holding}
+use Rattle.listener.specs.State.{sound, heldBytes, holding, emptyListener}
 
 -- an answer that hands nothing out, with the next state
 abbrev pub quiet : Answer → Listener → Heard
@@ -24,7 +24,7 @@ refusedBy r l = quiet (Refused r) l
 
 -- the datagram is complete: its bytes and their number, the rest 0; nothing is held now
 abbrev pub handed : List ℕ → Heard
-handed xs = record { answer = HandedOut; listener = holding []; bytes = padTo 18 xs; count = length xs }
+handed xs = record { answer = HandedOut; listener = emptyListener; bytes = padTo 18 xs; count = length xs }
 
 -- a command symbol: opened if nothing is held, else cancelled; its byte alone is held
 abbrev pub commandSymbol : List ℕ → ℕ → Heard
@@ -37,7 +37,7 @@ reaching xs = cond (eqb (length xs) (declared (getD xs 1 0))) (handed xs) (quiet
 
 -- another symbol: a stray if nothing is held
 abbrev pub otherSymbol : List ℕ → ℕ → Heard
-otherSymbol [] byte = quiet Stray (holding [])
+otherSymbol [] byte = quiet Stray emptyListener
 otherSymbol (x ∷ xs) byte = reaching ((x ∷ xs) ++ (byte ∷ []))
 
 -- one symbol 0..511, with these bytes held

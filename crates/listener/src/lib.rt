@@ -6,7 +6,7 @@ ghost use mathlib.Core.Path.{_≡_};
 ghost use mathlib.Core.Bool.{true};
 ghost use mathlib.Core.List.{[], _∷_, _++_};
 ghost use Prim.Native.Nat.{_≤_, _<_};
-ghost use Rattle.listener.specs.State.{sound, empty, holding, heldBytes};
+ghost use Rattle.listener.specs.State.{sound, empty, emptyListener, heldBytes};
 ghost use Rattle.listener.specs.Step.{hearOf, commandSymbol, otherSymbol, quiet, refusedBy, handed};
 
 // What is held of the datagram that is being heard: `held` bytes, and zeros past them.
@@ -34,8 +34,8 @@ pub struct Heard {
 }
 
 // The listener that holds nothing.
-pub fn silent() -> Listener
-    ensures { λ r. ⌜ r ≡ holding [] ⌝ }
+pub fn empty_listener() -> Listener
+    ensures { λ r. ⌜ r ≡ emptyListener ⌝ }
 {
     Listener {
         bytes: [0; 17],
@@ -105,7 +105,7 @@ fn refused(l: Listener, refusal: Refusal) -> Heard
 fn opened(l: Listener, byte: u8) -> Heard
     ensures { λ r. ⌜ r ≡ commandSymbol (heldBytes l) byte ⌝ }
 {
-    let mut next = silent();
+    let mut next = empty_listener();
     next.bytes[0] = byte;
     next.held = 1;
     if l.held == 0 {
@@ -147,7 +147,7 @@ fn handed_out(l: Listener, byte: u8) -> Heard
     out[at] = byte;
     Heard {
         answer: Answer::HandedOut,
-        listener: silent(),
+        listener: empty_listener(),
         bytes: out,
         count: held + 1,
     }

@@ -77,13 +77,13 @@ pub record Partly (before : List ℕ) (at n : ℕ) (out : List ℕ) (e m : ℕ) 
   pub later : List ℕ
   pub same : decimal n ≡ decimalBy (suc fuel) m later
   pub stored : out ≡ sets before e later
-  pub place : e + length later ≡ at + length (decimal n)
+  pub ends : e + length later ≡ at + length (decimal n)
   pub room : m < to fuel
 
 pub partly-none : (before : List ℕ) (at n e : ℕ) → n < to 19 → e ≡ at + length (decimal n) → Partly before at n before e n
 unfolding decimal
 partly-none before at n e h p =
-    record { fuel = 19; later = []; same = refl; stored = refl; place = omega arith; room = h }
+    record { fuel = 19; later = []; same = refl; stored = refl; ends = omega arith; room = h }
 
 -- a number of k digits more than one has more fuel than k
 fuel-left : (k fuel m : ℕ) → to k ≤ m → m < to fuel → k < fuel
@@ -134,9 +134,9 @@ decimal-hundreds n g h =
     two-by 18 n [] g ∙ by-enough 17 18 20 (n / 100) [] (pairOf (n % 100)) (omega arith) (omega arith) (omega arith)
 
 -- the ten thousands, and then the last four digits, two and two
-pub decimal-myriads : (n : ℕ) → 10000 ≤ n → n < to 17
+pub decimal-ten-thousands : (n : ℕ) → 10000 ≤ n → n < to 17
     → decimal n ≡ decimal (n / 10000) ++ (pairOf (n % 10000 / 100) ++ pairOf (n % 10000 % 100))
-decimal-myriads n g h =
+decimal-ten-thousands n g h =
     let a : n / 100 / 100 ≡ n / 10000 = omega arith in
     let b : n / 100 % 100 ≡ n % 10000 / 100 = omega arith in
     let c : n % 100 ≡ n % 10000 % 100 = omega arith in
@@ -161,7 +161,7 @@ module _ {before out : List ℕ} {at n e m : ℕ} (p : Partly before at n out e 
       let s : length (decimal n) ≡ length (decimalBy (suc (p .fuel - 2)) (m / 100) ((48 + m % 100 / 10) ∷ (48 + m % 100 % 10) ∷ p .later)) =
       ap length (same-two h)
       in
-      omega (arith, p .place, s, between (suc (p .fuel - 2)) (m / 100) ((48 + m % 100 / 10) ∷ (48 + m % 100 % 10) ∷ p .later))
+      omega (arith, p .ends, s, between (suc (p .fuel - 2)) (m / 100) ((48 + m % 100 / 10) ∷ (48 + m % 100 % 10) ∷ p .later))
 
   -- two digits more are stored
   pub partly-more : 100 ≤ m → Partly before at n (sets out (e - 2) ((48 + m % 100 / 10) ∷ (48 + m % 100 % 10) ∷ [])) (e - 2) (m / 100)
@@ -174,7 +174,7 @@ module _ {before out : List ℕ} {at n e m : ℕ} (p : Partly before at n out e 
         later = (48 + m % 100 / 10) ∷ (48 + m % 100 % 10) ∷ p .later;
         same = same-two h;
         stored = rw (p .stored) (pair-sets before (e - 2) e (48 + m % 100 / 10) (48 + m % 100 % 10) (p .later) (omega arith));
-        place = omega (arith, p .place);
+        ends = omega (arith, p .ends);
         room = omega arith;
       }
 
@@ -185,11 +185,11 @@ module _ {before out : List ℕ} {at n e m : ℕ} (p : Partly before at n out e 
   last-one : m < 10 → decimal n ≡ (48 + m) ∷ p .later
   last-one h = rw (lt-ltb m 10 h) at (p .same)
 
-  pub place-one : m < 10 → e ≡ suc at
-  place-one h = omega (arith, p .place, ap length (last-one h))
+  pub ends-one : m < 10 → e ≡ suc at
+  ends-one h = omega (arith, p .ends, ap length (last-one h))
 
   pub partly-one : m < 10 → set out at (48 + m) ≡ sets before at (decimal n)
-  partly-one h = rw (p .stored, place-one h, last-one h) (set-sets before at (suc at) (48 + m) (p .later) (omega arith))
+  partly-one h = rw (p .stored, ends-one h, last-one h) (set-sets before at (suc at) (48 + m) (p .later) (omega arith))
 
   -- the last two
   last-two : 10 ≤ m → m < 100 → decimal n ≡ (48 + m / 10) ∷ (48 + m % 10) ∷ p .later
@@ -197,8 +197,8 @@ module _ {before out : List ℕ} {at n e m : ℕ} (p : Partly before at n out e 
       let f : p .fuel ≡ suc (p .fuel - 1) = omega (arith, fuel-left 0 (p .fuel) m g (p .room)) in
       rw (f, le-ltb m 10 g, lt-ltb (m / 10) 10 (omega arith)) at (p .same)
 
-  pub place-two : 10 ≤ m → m < 100 → e ≡ suc (suc at)
-  place-two g h = omega (arith, p .place, ap length (last-two g h))
+  pub ends-two : 10 ≤ m → m < 100 → e ≡ suc (suc at)
+  ends-two g h = omega (arith, p .ends, ap length (last-two g h))
 
   pub partly-two : 10 ≤ m → m < 100 → sets out at ((48 + m / 10) ∷ (48 + m % 10) ∷ []) ≡ sets before at (decimal n)
-  partly-two g h = rw (p .stored, last-two g h) (pair-sets before at e (48 + m / 10) (48 + m % 10) (p .later) (place-two g h))
+  partly-two g h = rw (p .stored, last-two g h) (pair-sets before at e (48 + m / 10) (48 + m % 10) (p .later) (ends-two g h))

@@ -7,7 +7,7 @@ use lib.Dec.{eqb}
 use lib.ListN.{length, length-append}
 use lib.Seq.{take-all}
 use Rattle.message.specs.Reading.{readOf}
-use Rattle.framing.specs.Taken.{entry}
+use Rattle.framing.specs.Steps.{entry}
 use Rattle.listing.specs.Text.{decimal, spacedHex}
 use Rattle.listing.specs.Line.{contentOf, lineOf}
 use Rattle.listing.proofs.Decimal.{decimal-most}

@@ -10,7 +10,7 @@ use lib.Dec.{ltb}
 use lib.ListN.{length, getD, take, drop, length-append}
 use lib.Seq.{sets, sets-eq, take-append-seam, length-take-le}
 use Rattle.listing.specs.Text.{Put, Kept, decimal, pairOf}
-use Rattle.listing.proofs.Decimal.{decimal-most, decimal-below, decimal-myriads}
+use Rattle.listing.proofs.Decimal.{decimal-most, decimal-below, decimal-ten-thousands}
 use Rattle.listing.proofs.Put.{put-length, overlaid}
 
 -- the first six of a list
@@ -61,7 +61,7 @@ module _ {digits : List ℕ} {n count : ℕ} (k : Kept digits (n / 10000) count)
       let long : length (take 6 digits) ≡ 6 = length-take-le 6 digits (omega (arith, k .long)) in
       let kept : take count (take 6 digits) ≡ decimal (n / 10000) = take-take count 6 digits at-most-six ∙ k .shown in
       let all : decimal n ≡ take count (take 6 digits) ++ four =
-      decimal-myriads n (omega (arith, ten-least (n / 10000) (omega (arith, k .many)))) (omega arith) ∙ ap (λ (d : List ℕ). d ++ four) (sym kept) in
+      decimal-ten-thousands n (omega (arith, ten-least (n / 10000) (omega (arith, k .many)))) (omega arith) ∙ ap (λ (d : List ℕ). d ++ four) (sym kept) in
       record {
         stored = put .stored ∙ ap (λ (l : List ℕ). sets l (at + count) four) e
             ∙ overlaid out at count (take 6 digits) four (omega (arith, long, at-most-six)) (omega (arith, long)) ∙ ap (sets out at) (sym all);

@@ -16,13 +16,13 @@ ghost use lib.ListN.{length};
 ghost use Rattle.datagram.specs.Whole.{whole};
 ghost use Rattle.listing.specs.Text.{Put, Kept, digitPairs};
 ghost use Rattle.framing.specs.Walk.{walkFrom, recordsIn};
-ghost use Rattle.framing.specs.Taken.{entry};
+ghost use Rattle.framing.specs.Steps.{entry};
 ghost use Rattle.listing.specs.Line.{lineOf};
 ghost use Rattle.listing.specs.Walk.{Block};
 
-// What was put: the place after it, and the digits that are kept.
+// What was put: the position after it, and the digits that are kept.
 struct Entry {
-    place: usize,
+    end: usize,
     stamp: Stamp,
 }
 
@@ -34,20 +34,20 @@ pub fn list_block(progress: Progress, input: &[u8], out: &mut [u8]) -> Listed
     let mut bytes = [0u8; 18];
     let mut digits = [48u8; 20];
     let mut stamp = Stamp {
-        myriads: 0,
+        leading: 0,
         count: 1,
     };
     let mut p = progress;
-    let mut idle = listener::is_empty(p.listener);
+    let mut empty = listener::is_empty(p.listener);
     let mut left = input.len() / 8;
     let mut at = 0;
-    let mut place = 0;
+    let mut written = 0;
     while 0 < left {
-        if out.len() - place < 512 {
-            return listed(p, at, place, Stop::Running);
+        if out.len() - written < 512 {
+            return listed(p, at, written, Stop::Running);
         }
         // Records taken at once leave the listener as it is, which is then not copied.
-        let g = gather(idle, input, at, &mut bytes);
+        let g = gather(empty, input, at, &mut bytes);
         let mut used = g.used;
         let mut count = g.count;
         let mut time = g.time;
@@ -57,30 +57,30 @@ pub fn list_block(progress: Progress, input: &[u8], out: &mut [u8]) -> Listed
             let t = hear_record(p, input, at);
             if t.used == 0 {
                 let stop = t.stop;
-                return listed(p, at, place, stop);
+                return listed(p, at, written, stop);
             }
             p = t.progress;
             bytes = t.bytes;
             used = 1;
             count = t.count;
             time = t.time;
-            idle = 0 < count;
+            empty = 0 < count;
         }
         let e = put_entry(
             &pairs,
             out,
-            place,
+            written,
             &mut digits,
             stamp,
             time,
             &bytes[0..count],
         );
-        place = e.place;
+        written = e.end;
         stamp = e.stamp;
         at += 8 * used;
         left -= used;
     }
-    listed(p, at, place, Stop::Running)
+    listed(p, at, written, Stop::Running)
 }
 
 // Puts the line of the bytes that were handed out, if any were.
@@ -93,21 +93,18 @@ fn put_entry(
     time: u32,
     bytes: &[u8],
 ) -> Entry
-    requires { ⌜ (now pairs ≡ digitPairs) × (at + 512 ≤ length (now out)) × Kept (now digits) (stamp .myriads) (stamp .count) × (0 < length (now bytes) → whole (now bytes) ≡ true) ⌝ }
-    ensures { λ r. ⌜ Put (now (out .entry)) at (entry lineOf time (now (bytes .entry))) (now (out .exit)) (r .place) × Kept (now (digits .exit)) (r .stamp .myriads) (r .stamp .count) ⌝ }
+    requires { ⌜ (now pairs ≡ digitPairs) × (at + 512 ≤ length (now out)) × Kept (now digits) (stamp .leading) (stamp .count) × (0 < length (now bytes) → whole (now bytes) ≡ true) ⌝ }
+    ensures { λ r. ⌜ Put (now (out .entry)) at (entry lineOf time (now (bytes .entry))) (now (out .exit)) (r .end) × Kept (now (digits .exit)) (r .stamp .leading) (r .stamp .count) ⌝ }
 {
     if bytes.len() == 0 {
         return Entry {
-            place: at,
+            end: at,
             stamp: stamp,
         };
     }
     let s = keep(pairs, digits, stamp, time / 10000);
-    let place = put_line(pairs, out, at, digits, s.count, time, bytes);
-    Entry {
-        place: place,
-        stamp: s,
-    }
+    let end = put_line(pairs, out, at, digits, s.count, time, bytes);
+    Entry { end: end, stamp: s }
 }
 
 fn listed(progress: Progress, used: usize, written: usize, stop: Stop) -> Listed

@@ -29,7 +29,7 @@ pub struct Listed {
 
 // The digits that are kept from line to line: of how many ten thousands, and how many they are.
 struct Stamp {
-    myriads: u32,
+    leading: u32,
     count: usize,
 }
 
@@ -67,7 +67,7 @@ fn digit_pairs() -> [u8; 712]
 }
 
 // How many digits a number has.
-fn places(n: u64) -> usize
+fn digit_count(n: u64) -> usize
     ensures { λ r. ⌜ r ≡ length (decimal n) ⌝ }
 {
     if n < 10000000000 {
@@ -180,7 +180,7 @@ fn put_decimal(pairs: &[u8; 712], out: &mut [u8], at: usize, n: u64) -> usize
         store_pair(pairs, out, at + 1, n % 100);
         return at + 3;
     }
-    let end = at + places(n);
+    let end = at + digit_count(n);
     store_digits(pairs, out, at, end, n);
     end
 }
@@ -236,16 +236,16 @@ fn put_stamp(
 }
 
 // The digits of a number of ten thousands: those that are kept, or spelled anew where it is another number.
-fn keep(pairs: &[u8; 712], digits: &mut [u8], stamp: Stamp, myriads: u32) -> Stamp
-    requires { ⌜ (now pairs ≡ digitPairs) × Kept (now digits) (stamp .myriads) (stamp .count) ⌝ }
-    ensures { λ r. ⌜ Kept (now (digits .exit)) (r .myriads) (r .count) × (r .myriads ≡ myriads) ⌝ }
+fn keep(pairs: &[u8; 712], digits: &mut [u8], stamp: Stamp, leading: u32) -> Stamp
+    requires { ⌜ (now pairs ≡ digitPairs) × Kept (now digits) (stamp .leading) (stamp .count) ⌝ }
+    ensures { λ r. ⌜ Kept (now (digits .exit)) (r .leading) (r .count) × (r .leading ≡ leading) ⌝ }
 {
-    if myriads == stamp.myriads {
+    if leading == stamp.leading {
         return stamp;
     }
     Stamp {
-        myriads: myriads,
-        count: put_decimal(pairs, digits, 0, myriads as u64),
+        leading: leading,
+        count: put_decimal(pairs, digits, 0, leading as u64),
     }
 }
 

@@ -73,4 +73,4 @@ first (r ∷ rs) = Found r
 
 -- the row of a number, counted from 0
 unfoldable pub rowAt : ℕ → Lookup
-rowAt place = first (drop place kinds)
+rowAt index = first (drop index kinds)

@@ -296,7 +296,7 @@ fn rows() -> [Row; 20]
 }
 
 // The number of the table's row for a command, or 20 where there is none.
-fn place_of(command: u8) -> usize
+fn index_of(command: u8) -> usize
     ensures { λ r. ⌜ rowAt r ≡ findOf command ⌝ }
 {
     let table = rows();
@@ -313,11 +313,11 @@ fn place_of(command: u8) -> usize
 
 // The row of a number. Each index is a constant, so that the compiler lays no table out in memory: of the search and this
 // it leaves one jump by the command.
-fn row_at(place: usize) -> Lookup
-    ensures { λ r. ⌜ r ≡ rowAt place ⌝ }
+fn row_at(index: usize) -> Lookup
+    ensures { λ r. ⌜ r ≡ rowAt index ⌝ }
 {
     let table = rows();
-    match place {
+    match index {
         0 => Lookup::Found(table[0]),
         1 => Lookup::Found(table[1]),
         2 => Lookup::Found(table[2]),
@@ -346,7 +346,7 @@ fn row_at(place: usize) -> Lookup
 pub fn find(command: u8) -> Lookup
     ensures { λ r. ⌜ r ≡ findOf command ⌝ }
 {
-    row_at(place_of(command))
+    row_at(index_of(command))
 }
 
 // The table's row of a kind.

@@ -4,7 +4,7 @@ use mathlib.Core.Bool.{Bool, true, false}
 use mathlib.Core.List.{[]}
 use Rattle.listener.specs.declared.Heard.{Heard}
 use Rattle.listener.specs.Answers.{isHanded, isCancelled, isStray}
-use Rattle.listener.specs.State.{holding}
+use Rattle.listener.specs.State.{emptyListener}
 use Rattle.recording.specs.declared.Record.{Record}
 use Rattle.recording.specs.declared.Record.the-variants as record-case
 use Rattle.progress.specs.declared.Progress.{Progress}
@@ -13,7 +13,7 @@ use Rattle.progress.specs.declared.Stop.the-variants.{Running, Stopped}
 
 -- nothing heard yet
 abbrev pub begun : Progress
-begun = record { listener = holding []; handed = 0; cancelled = 0; stray = 0 }
+begun = record { listener = emptyListener; handed = 0; cancelled = 0; stray = 0 }
 
 -- one more on a 64-bit counter where the answer is of that sort
 abbrev pub counted : Bool → ℕ → ℕ

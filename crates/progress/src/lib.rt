@@ -26,7 +26,7 @@ pub enum Stop {
 pub fn begin() -> Progress
     ensures { λ r. ⌜ r ≡ begun ⌝ }
 {
-    progressed(listener::silent(), 0, 0, 0)
+    progressed(listener::empty_listener(), 0, 0, 0)
 }
 
 // The progress after an answer.

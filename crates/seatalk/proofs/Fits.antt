@@ -14,9 +14,9 @@ use Rattle.message.specs.declared.Message.the-variants.{Depth, WindAngle, WindS
 use Rattle.message.specs.declared.Verdict.the-variants.{InRange}
 use Rattle.message.specs.Fields.{fieldsOf}
 use Rattle.message.specs.Range.{rangeOf, atMost, fromOne, within, andThen}
-use Rattle.named.specs.Numbers.{AllFit}
-use Rattle.roundtrip.proofs.Limits.{at-most, from-one, inside, both, both-at-most}
-use Rattle.roundtrip.proofs.Lists.{num-small}
+use Rattle.from_fields.specs.Numbers.{AllFit}
+use Rattle.roundtrip_laws.proofs.Limits.{at-most, from-one, inside, both, both-at-most}
+use Rattle.roundtrip_laws.proofs.Lists.{num-small}
 
 small : {n : ℕ} → n < 2147483648 → SFits w32 (pos n)
 small h = record { sfits = h }

@@ -22,11 +22,11 @@ use Rattle.message.specs.Range.{rangeOf}
 use Rattle.message.specs.Reading.{byte}
 use Rattle.message.specs.Spelling.{bytesOf}
 use Rattle.message.specs.Table.{findOf}
-use Rattle.named.specs.declared.Naming.the-variants.{Named}
-use Rattle.named.specs.Numbers.{AllFit, fourBytes, fieldBytes, fieldsBytes, numbersOf}
-use Rattle.named.specs.Naming.{countOf, flagsOf, messageOf, badFlag, namedAs, namedOf}
-use Rattle.named.proofs.Each.{each-length}
-use Rattle.roundtrip.proofs.Rows.{finds}
+use Rattle.from_fields.specs.declared.Naming.the-variants.{Named}
+use Rattle.from_fields.specs.Numbers.{AllFit, fourBytes, fieldBytes, fieldsBytes, numbersOf}
+use Rattle.from_fields.specs.Naming.{countOf, flagsOf, messageOf, badFlag, namedAs, namedOf}
+use Rattle.from_fields.proofs.Each.{each-length}
+use Rattle.roundtrip_laws.proofs.Rows.{finds}
 use Rattle.seatalk.proofs.Fits.{fields-fit}
 
 -- a number's low byte and the rest of it

@@ -14,10 +14,10 @@ use Rattle.message.specs.Range.{rangeOf}
 use Rattle.message.specs.Spelling.{bytesOf, symbolsOf}
 use Rattle.writer.specs.declared.Written.the-variants.{Wrote, Refused}
 use Rattle.writer.specs.Writing.{Outcome, outcome, writeOf}
-use Rattle.roundtrip.proofs.RoundTrip.{round-trip}
-use Rattle.named.proofs.Each.{each-length}
-use Rattle.seatalk.specs.Told.{told, codeOf}
-use Rattle.seatalk.specs.Write.{symbolBytes, symbolsBytes, writeTold}
+use Rattle.roundtrip_laws.proofs.RoundTrip.{round-trip}
+use Rattle.from_fields.proofs.Each.{each-length}
+use Rattle.seatalk.specs.Returned.{returned, codeOf}
+use Rattle.seatalk.specs.Write.{symbolBytes, symbolsBytes, writeReturned}
 
 abbrev pub room : List ℕ
 room = replicate 18 0
@@ -39,16 +39,16 @@ module _ (m : Message) where
   refusing q i = rw i
 
   -- the writer refused: not for room, so by the verdict
-  pub told-refused : (r : Refusal) (buffer result : List ℕ) → outcome (Refused r) buffer ≡ writeOf m room 0 → told (codeOf r) result ≡ writeTold (rangeOf m) m result
-  told-refused r buffer result e = go (rangeOf m) refl
+  pub returned-refused : (r : Refusal) (buffer result : List ℕ) → outcome (Refused r) buffer ≡ writeOf m room 0 → returned (codeOf r) result ≡ writeReturned (rangeOf m) m result
+  returned-refused r buffer result e = go (rangeOf m) refl
     where
-      go : (v : Verdict) → rangeOf m ≡ v → told (codeOf r) result ≡ writeTold v m result
+      go : (v : Verdict) → rangeOf m ≡ v → returned (codeOf r) result ≡ writeReturned v m result
       go verdict.InRange i =
           let other : Refused r ≡ Wrote (length (bytesOf m)) = ap (λ (o : Outcome). o .answer) (e ∙ stored i) in
           let z : _≡_ {A = ℕ} 0 1 = cc in absurd (omega arith)
       go (verdict.Refused q) i =
           let same : Refused r ≡ Refused q = ap (λ (o : Outcome). o .answer) e ∙ refusing q i in
-          let equal : r ≡ q = cc in ap (λ (x : Refusal). told (codeOf x) result) equal
+          let equal : r ≡ q = cc in ap (λ (x : Refusal). returned (codeOf x) result) equal
 
   -- the writer wrote n symbols
   pub record Spelled (n : ℕ) (buffer : List ℕ) : Type 0 where
@@ -61,7 +61,7 @@ module _ (m : Message) where
   pub spelled : (n : ℕ) (buffer : List ℕ) → outcome (Wrote n) buffer ≡ writeOf m room 0 → Spelled n buffer
   spelled n buffer e =
       let i = round-trip .accepted m room 0 n (sym (ap (λ (o : Outcome). o .answer) e)) in
-      let told : Wrote n ≡ Wrote (length (bytesOf m)) = ap (λ (o : Outcome). o .answer) (e ∙ stored i) in
+      let returned : Wrote n ≡ Wrote (length (bytesOf m)) = ap (λ (o : Outcome). o .answer) (e ∙ stored i) in
       let count : n ≡ length (bytesOf m) = cc in
       let left : buffer ≡ symbolsOf m ++ drop (length (bytesOf m)) room = ap (λ (o : Outcome). o .buffer) (e ∙ stored i) in
       record {

@@ -15,20 +15,20 @@ use Rattle.listener.specs.declared.Answer.the-variants as answer
 use Rattle.listener.specs.Step.{hearOf}
 use Rattle.seatalk.specs.declared.hear.Numbered.{Numbered}
 use Rattle.seatalk.specs.declared.hear.Numbered.the-variants.{Number, Refused}
-use Rattle.seatalk.specs.Told.{codeOf}
+use Rattle.seatalk.specs.Returned.{codeOf}
 
 -- what the call returns, and what the lent state and result hold afterwards
-pub record Told : Type 0 where
+pub record Returned : Type 0 where
   pub code : ℤ
   pub state : List ℕ
   pub result : List ℕ
 
-abbrev pub told : ℤ → List ℕ → List ℕ → Told
-told code state result = record { code = code; state = state; result = result }
+abbrev pub returned : ℤ → List ℕ → List ℕ → Returned
+returned code state result = record { code = code; state = state; result = result }
 
 -- a refusal leaves both as they were
-abbrev pub refused : Refusal → List ℕ → List ℕ → Told
-refused r state result = told (codeOf r) state result
+abbrev pub refused : Refusal → List ℕ → List ℕ → Returned
+refused r state result = returned (codeOf r) state result
 
 -- a state's bytes: the number held, then 17 bytes
 abbrev pub stateOf : Listener → List ℕ
@@ -56,15 +56,15 @@ abbrev pub resultOf : ℕ → Heard → List ℕ
 resultOf number h = number ∷ h .count ∷ h .bytes
 
 -- the next state and 20 bytes of result, or the refusal; 8 comes last
-abbrev pub answered : Numbered → Heard → List ℕ → List ℕ → Told
+abbrev pub answered : Numbered → Heard → List ℕ → List ℕ → Returned
 answered (Refused r) h state result = refused r state result
 answered (Number n) h state result =
     cond (leb 20 (length result))
-    (told (pos 20) (stateOf (h .listener)) (resultOf n h ++ drop 20 result))
+    (returned (pos 20) (stateOf (h .listener)) (resultOf n h ++ drop 20 result))
     (refused noRoom state result)
 
 -- the listener's call; 1 comes before 2, which a state of another length than 18 gets too
-unfoldable pub hearCall : List ℕ → ℕ → List ℕ → Told
+unfoldable pub hearCall : List ℕ → ℕ → List ℕ → Returned
 hearCall state symbol result =
     cond (ltb 511 symbol) (refused symbolAbove state result)
     (cond (eqb (length state) 18)

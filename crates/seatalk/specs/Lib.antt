@@ -1,4 +1,4 @@
-pub mod Told
+pub mod Returned
 pub mod Hear
 pub mod Read
 pub mod Write

@@ -5,13 +5,13 @@ use Rattle.message.specs.declared.Reading.{Reading}
 use Rattle.message.specs.declared.Reading.the-variants.{Read, Refused}
 use Rattle.message.specs.Fields.{fieldsOf}
 use Rattle.message.specs.Reading.{readOf}
-use Rattle.named.specs.Numbers.{fieldsBytes}
-use Rattle.seatalk.specs.Told.{Told, refused, placed}
+use Rattle.from_fields.specs.Numbers.{fieldsBytes}
+use Rattle.seatalk.specs.Returned.{Returned, refused, placed}
 
 -- the fields in table order, 4 bytes each, or the refusal; 8 comes last
-abbrev pub readTold : Reading → List ℕ → Told
-readTold (Read m) result = placed (fieldsBytes (fieldsOf m)) result
-readTold (Refused r) result = refused r result
+abbrev pub readReturned : Reading → List ℕ → Returned
+readReturned (Read m) result = placed (fieldsBytes (fieldsOf m)) result
+readReturned (Refused r) result = refused r result
 
-unfoldable pub readCall : List ℕ → List ℕ → Told
-readCall bytes result = readTold (readOf bytes) result
+unfoldable pub readCall : List ℕ → List ℕ → Returned
+readCall bytes result = readReturned (readOf bytes) result

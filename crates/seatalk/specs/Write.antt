@@ -6,11 +6,11 @@ use Rattle.message.specs.declared.Verdict.{Verdict}
 use Rattle.message.specs.declared.Verdict.the-variants as verdict
 use Rattle.message.specs.Range.{rangeOf}
 use Rattle.message.specs.Spelling.{symbolsOf}
-use Rattle.named.specs.declared.Naming.{Naming}
-use Rattle.named.specs.declared.Naming.the-variants.{Named, Refused}
-use Rattle.named.specs.Naming.{namedOf}
-use Rattle.named.specs.Numbers.{each}
-use Rattle.seatalk.specs.Told.{Told, refused, placed}
+use Rattle.from_fields.specs.declared.Naming.{Naming}
+use Rattle.from_fields.specs.declared.Naming.the-variants.{Named, Refused}
+use Rattle.from_fields.specs.Naming.{namedOf}
+use Rattle.from_fields.specs.Numbers.{each}
+use Rattle.seatalk.specs.Returned.{Returned, refused, placed}
 
 -- a symbol is 2 bytes, low byte first
 abbrev pub symbolBytes : ℕ → List ℕ
@@ -20,14 +20,14 @@ abbrev pub symbolsBytes : List ℕ → List ℕ
 symbolsBytes symbols = each symbolBytes symbols
 
 -- the symbols of a message in range, or refusal 7; 8 comes last
-abbrev pub writeTold : Verdict → Message → List ℕ → Told
-writeTold verdict.InRange m result = placed (symbolsBytes (symbolsOf m)) result
-writeTold (verdict.Refused r) m result = refused r result
+abbrev pub writeReturned : Verdict → Message → List ℕ → Returned
+writeReturned verdict.InRange m result = placed (symbolsBytes (symbolsOf m)) result
+writeReturned (verdict.Refused r) m result = refused r result
 
 -- the message that the command and the fields name, or refusal 4, 5 or 7
-abbrev pub nameTold : Naming → List ℕ → Told
-nameTold (Named m) result = writeTold (rangeOf m) m result
-nameTold (Refused r) result = refused r result
+abbrev pub namedReturned : Naming → List ℕ → Returned
+namedReturned (Named m) result = writeReturned (rangeOf m) m result
+namedReturned (Refused r) result = refused r result
 
-unfoldable pub writeCall : ℕ → List ℕ → List ℕ → Told
-writeCall command fields result = nameTold (namedOf command fields) result
+unfoldable pub writeCall : ℕ → List ℕ → List ℕ → Returned
+writeCall command fields result = namedReturned (namedOf command fields) result

@@ -13,7 +13,7 @@ ghost use mathlib.Core.List.{_++_};
 ghost use Prim.Native.Nat.{_≤_};
 ghost use lib.ListN.{length, drop};
 ghost use Rattle.listener.specs.Step.{hearOf};
-ghost use Rattle.seatalk.specs.Hear.{told, stateOf, Longer, listenerOf, numberOf, resultOf, answered, hearCall};
+ghost use Rattle.seatalk.specs.Hear.{returned, stateOf, Longer, listenerOf, numberOf, resultOf, answered, hearCall};
 
 // An answer by its number in document 01's order, or the refusal.
 pub enum Numbered {
@@ -83,7 +83,7 @@ fn put_next(number: u8, byte: u8, l: Listener, state: &mut [u8])
 // Stores the next state and the result, where the listener refused nothing and there is room.
 fn answer(h: Heard, symbol: u16, state: &mut [u8], result: &mut [u8]) -> i32
     requires { ⌜ (length (now state) ≡ 18) × (h ≡ hearOf (listenerOf (now state)) symbol) ⌝ }
-    ensures { λ r. ⌜ told r (now (state .exit)) (now (result .exit)) ≡ answered (numberOf (h .answer)) h (now (state .entry)) (now (result .entry)) ⌝ }
+    ensures { λ r. ⌜ returned r (now (state .exit)) (now (result .exit)) ≡ answered (numberOf (h .answer)) h (now (state .entry)) (now (result .entry)) ⌝ }
 {
     let answer = h.answer;
     match number_of(answer) {
@@ -101,7 +101,7 @@ fn answer(h: Heard, symbol: u16, state: &mut [u8], result: &mut [u8]) -> i32
 }
 
 pub fn hear(state: &mut [u8], symbol: u32, result: &mut [u8]) -> i32
-    ensures { λ r. ⌜ told r (now (state .exit)) (now (result .exit)) ≡ hearCall (now (state .entry)) symbol (now (result .entry)) ⌝ }
+    ensures { λ r. ⌜ returned r (now (state .exit)) (now (result .exit)) ≡ hearCall (now (state .entry)) symbol (now (result .entry)) ⌝ }
 {
     if 511 < symbol {
         return code_of(SYMBOL_ABOVE);

@@ -2,9 +2,9 @@
 use crate::code_of;
 use crate::put_word;
 use datagram::refusals::NO_ROOM;
-use fields::Fields;
 use message::Message;
 use message::Reading;
+use to_fields::Fields;
 ghost use mathlib.Core.Path.{_≡_};
 ghost use mathlib.Core.List.{_++_};
 ghost use Prim.Native.Nat.{_*_, _≤_};
@@ -12,8 +12,8 @@ ghost use lib.ListN.{length, take, drop};
 ghost use Rattle.message.specs.declared.Verdict.the-variants.{InRange};
 ghost use Rattle.message.specs.Fields.{fieldsOf};
 ghost use Rattle.message.specs.Range.{rangeOf};
-ghost use Rattle.named.specs.Numbers.{fieldsBytes, AllFit};
-ghost use Rattle.seatalk.specs.Told.{told, placed};
+ghost use Rattle.from_fields.specs.Numbers.{fieldsBytes, AllFit};
+ghost use Rattle.seatalk.specs.Returned.{returned, placed};
 ghost use Rattle.seatalk.specs.Read.{readCall};
 
 // Stores the fields, 4 bytes each.
@@ -30,11 +30,11 @@ fn store(f: Fields, result: &mut [u8])
 }
 
 // The fields of a message in range, or refusal 8.
-fn place(m: Message, result: &mut [u8]) -> i32
+fn put_fields(m: Message, result: &mut [u8]) -> i32
     requires { ⌜ rangeOf m ≡ InRange ⌝ }
-    ensures { λ r. ⌜ told r (now (result .exit)) ≡ placed (fieldsBytes (fieldsOf m)) (now (result .entry)) ⌝ }
+    ensures { λ r. ⌜ returned r (now (result .exit)) ≡ placed (fieldsBytes (fieldsOf m)) (now (result .entry)) ⌝ }
 {
-    let f = fields::fields_of(m);
+    let f = to_fields::fields_of(m);
     let size = 4 * (f.count as usize);
     if result.len() < size {
         return code_of(NO_ROOM);
@@ -44,10 +44,10 @@ fn place(m: Message, result: &mut [u8]) -> i32
 }
 
 pub fn read(bytes: &[u8], result: &mut [u8]) -> i32
-    ensures { λ r. ⌜ told r (now (result .exit)) ≡ readCall (now (bytes .entry)) (now (result .entry)) ⌝ }
+    ensures { λ r. ⌜ returned r (now (result .exit)) ≡ readCall (now (bytes .entry)) (now (result .entry)) ⌝ }
 {
     match reader::read(bytes) {
         Reading::Refused(r) => code_of(r),
-        Reading::Read(m) => place(m, result),
+        Reading::Read(m) => put_fields(m, result),
     }
 }

@@ -1,16 +1,16 @@
 // A command and its fields written as the symbols of a message.
 use crate::code_of;
 use datagram::refusals::NO_ROOM;
+use from_fields::Naming;
 use message::Message;
-use named::Naming;
 use writer::Written;
 ghost use mathlib.Core.Path.{_≡_};
 ghost use mathlib.Core.List.{_++_};
 ghost use Prim.Native.Nat.{_*_, _/_, _≤_};
 ghost use lib.ListN.{length, take, drop};
 ghost use Rattle.message.specs.Range.{rangeOf};
-ghost use Rattle.seatalk.specs.Told.{told};
-ghost use Rattle.seatalk.specs.Write.{writeTold, writeCall, symbolsBytes};
+ghost use Rattle.seatalk.specs.Returned.{returned};
+ghost use Rattle.seatalk.specs.Write.{writeReturned, writeCall, symbolsBytes};
 
 // The high byte of a symbol. By cases, since the compiler would turn a plain copy of so few bytes into a call.
 fn high_byte(s: u16) -> u8
@@ -40,8 +40,8 @@ fn store(symbols: &[u16], n: usize, result: &mut [u8])
 }
 
 // The symbols of a message, or refusal 7 or 8.
-fn place(m: Message, result: &mut [u8]) -> i32
-    ensures { λ r. ⌜ told r (now (result .exit)) ≡ writeTold (rangeOf m) m (now (result .entry)) ⌝ }
+fn put_symbols(m: Message, result: &mut [u8]) -> i32
+    ensures { λ r. ⌜ returned r (now (result .exit)) ≡ writeReturned (rangeOf m) m (now (result .entry)) ⌝ }
 {
     let mut symbols = [0u16; 18];
     match writer::write(m, &mut symbols, 0) {
@@ -58,10 +58,10 @@ fn place(m: Message, result: &mut [u8]) -> i32
 }
 
 pub fn write(command: u32, fields: &[u8], result: &mut [u8]) -> i32
-    ensures { λ r. ⌜ told r (now (result .exit)) ≡ writeCall command (now (fields .entry)) (now (result .entry)) ⌝ }
+    ensures { λ r. ⌜ returned r (now (result .exit)) ≡ writeCall command (now (fields .entry)) (now (result .entry)) ⌝ }
 {
-    match named::name(command, fields) {
+    match from_fields::message_of(command, fields) {
         Naming::Refused(r) => code_of(r),
-        Naming::Named(m) => place(m, result),
+        Naming::Named(m) => put_symbols(m, result),
     }
 }

@@ -43,10 +43,10 @@ module _ (s : Sender) (long : length (s .datagram) ≡ 18) where
   pub symbol-first : symbolAt s 0 ≡ 256 + getD (s .datagram) 0 0
   symbol-first = first-of (bytesOf s) (omega (arith, count)) ∙ rw (getD-take (lengthOf s) (s .datagram) 0 0 (omega arith))
 
-pub symbol-later : (s : Sender) (place : ℕ) → 0 < place → place < lengthOf s → symbolAt s place ≡ getD (s .datagram) place 0
-symbol-later s place some h = later-of (bytesOf s) place some ∙ getD-take (lengthOf s) (s .datagram) place 0 h
+pub symbol-later : (s : Sender) (position : ℕ) → 0 < position → position < lengthOf s → symbolAt s position ≡ getD (s .datagram) position 0
+symbol-later s position some h = later-of (bytesOf s) position some ∙ getD-take (lengthOf s) (s .datagram) position 0 h
 
-pub sound-is : (s : Sender) → length (s .datagram) ≡ 18 → sound s ≡ allZero (drop (lengthOf s) (s .datagram)) && ((leb 10 (s .wait) && leb (s .wait) 255) && ((leb 1 (s .limit) && leb (s .limit) 50) && phaseSound (s .phase) (s .place) (lengthOf s) (s .failures) (s .limit)))
+pub sound-is : (s : Sender) → length (s .datagram) ≡ 18 → sound s ≡ allZero (drop (lengthOf s) (s .datagram)) && ((leb 10 (s .wait) && leb (s .wait) 255) && ((leb 1 (s .limit) && leb (s .limit) 50) && phaseSound (s .phase) (s .position) (lengthOf s) (s .failures) (s .limit)))
 unfolding sound
 sound-is s long = rw (always-whole s long)
 
@@ -55,7 +55,7 @@ pub record Sound (s : Sender) : Type 0 where
   pub zeros : allZero (drop (lengthOf s) (s .datagram)) ≡ true
   pub wait : (10 ≤ s .wait) × (s .wait ≤ 255)
   pub limit : (1 ≤ s .limit) × (s .limit ≤ 50)
-  pub phase : phaseSound (s .phase) (s .place) (lengthOf s) (s .failures) (s .limit) ≡ true
+  pub phase : phaseSound (s .phase) (s .position) (lengthOf s) (s .failures) (s .limit) ≡ true
 
 between : (a n b : ℕ) → leb a n && leb n b ≡ true → (a ≤ n) × (n ≤ b)
 between a n b e =
@@ -68,7 +68,7 @@ parts s e =
     let zeros = allZero (drop (lengthOf s) (s .datagram)) in
     let wait = leb 10 (s .wait) && leb (s .wait) 255 in
     let limit = leb 1 (s .limit) && leb (s .limit) 50 in
-    let phase = phaseSound (s .phase) (s .place) (lengthOf s) (s .failures) (s .limit) in
+    let phase = phaseSound (s .phase) (s .position) (lengthOf s) (s .failures) (s .limit) in
     let past-whole = and-eq-true-iff (whole (bytesOf s)) (zeros && (wait && (limit && phase))) .0 e .1 in
     let past-zeros = and-eq-true-iff zeros (wait && (limit && phase)) .0 past-whole in
     let past-wait = and-eq-true-iff wait (limit && phase) .0 (past-zeros .1) in
@@ -81,8 +81,8 @@ parts s e =
     }
 
 -- a sound sender that awaits an echo has sent a symbol of the datagram, and has an attempt left to fail
-pub awaits : (s : Sender) → sound s ≡ true → s .phase ≡ Awaiting → (s .place < lengthOf s) × (s .failures < s .limit)
+pub awaits : (s : Sender) → sound s ≡ true → s .phase ≡ Awaiting → (s .position < lengthOf s) × (s .failures < s .limit)
 awaits s e p =
     let here = rw p at (parts s e .phase) in
-    let both = and-eq-true-iff (ltb (s .place) (lengthOf s)) (ltb (s .failures) (s .limit)) .0 here in
-    (ltb-true (s .place) (lengthOf s) (both .0), ltb-true (s .failures) (s .limit) (both .1))
+    let both = and-eq-true-iff (ltb (s .position) (lengthOf s)) (ltb (s .failures) (s .limit)) .0 here in
+    (ltb-true (s .position) (lengthOf s) (both .0), ltb-true (s .failures) (s .limit) (both .1))

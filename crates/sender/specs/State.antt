@@ -18,16 +18,16 @@ lengthOf s = declared (getD (s .datagram) 1 0)
 abbrev pub bytesOf : Sender → List ℕ
 bytesOf s = take (lengthOf s) (s .datagram)
 
--- the symbol at a place of the datagram
+-- the symbol at a position of the datagram
 abbrev pub symbolAt : Sender → ℕ → ℕ
-symbolAt s place = getD (symbols (bytesOf s)) place 0
+symbolAt s position = getD (symbols (bytesOf s)) position 0
 
--- the place and the failures as each phase has them
+-- the position and the failures as each phase has them
 abbrev pub phaseSound : Phase → ℕ → ℕ → ℕ → ℕ → Bool
-phaseSound Waiting place size failures limit = eqb place 0 && ltb failures limit
-phaseSound Awaiting place size failures limit = ltb place size && ltb failures limit
-phaseSound Done place size failures limit = eqb place size && ltb failures limit
-phaseSound GaveUp place size failures limit = eqb place 0 && eqb failures limit
+phaseSound Waiting position size failures limit = eqb position 0 && ltb failures limit
+phaseSound Awaiting position size failures limit = ltb position size && ltb failures limit
+phaseSound Done position size failures limit = eqb position size && ltb failures limit
+phaseSound GaveUp position size failures limit = eqb position 0 && eqb failures limit
 
 -- the datagram is whole, the bytes past it are 0, the wait is 10..255, the limit 1..50, and the phase is as it should be
 unfoldable pub sound : Sender → Bool
@@ -36,4 +36,4 @@ sound s =
     && (allZero (drop (lengthOf s) (s .datagram))
     && ((leb 10 (s .wait) && leb (s .wait) 255)
     && ((leb 1 (s .limit) && leb (s .limit) 50)
-    && phaseSound (s .phase) (s .place) (lengthOf s) (s .failures) (s .limit))))
+    && phaseSound (s .phase) (s .position) (lengthOf s) (s .failures) (s .limit))))

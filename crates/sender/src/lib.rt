@@ -22,12 +22,12 @@ pub enum Phase {
     GaveUp,
 }
 
-// A datagram on its way: 18 bytes with zeros past it, the place of the symbol whose echo is awaited, the wait before a
+// A datagram on its way: 18 bytes with zeros past it, the position of the symbol whose echo is awaited, the wait before a
 // start, the limit of attempts, and the failures so far.
 pub struct Sender {
     pub phase: Phase,
     pub datagram: [u8; 18],
-    pub place: u8,
+    pub position: u8,
     pub wait: u8,
     pub limit: u8,
     pub failures: u8,
@@ -51,7 +51,7 @@ pub enum Answer {
 }
 
 // One call's outcome.
-pub struct Said {
+pub struct Outcome {
     pub answer: Answer,
     pub sender: Sender,
 }
@@ -93,7 +93,7 @@ pub fn offer(bytes: &[u8], wait: u32, limit: u32) -> Offered
         sender: Sender {
             phase: Phase::Waiting,
             datagram: padded(bytes),
-            place: 0,
+            position: 0,
             wait: waits as u8,
             limit: limit as u8,
             failures: 0,
@@ -102,7 +102,7 @@ pub fn offer(bytes: &[u8], wait: u32, limit: u32) -> Offered
 }
 
 // Asks what to do, at this time with the bus last active at `last`, both on a bit-time counter that wraps.
-pub fn poll(s: Sender, time: u32, last: u32) -> Said
+pub fn poll(s: Sender, time: u32, last: u32) -> Outcome
     ensures { λ r. ⌜ r ≡ pollOf s time last ⌝ }
 {
     if !is_sound(s) {
@@ -118,7 +118,7 @@ pub fn poll(s: Sender, time: u32, last: u32) -> Said
 }
 
 // Tells the sender a symbol that was heard while it awaits its echo.
-pub fn echo(s: Sender, symbol: u16) -> Said
+pub fn echo(s: Sender, symbol: u16) -> Outcome
     ensures { λ r. ⌜ r ≡ echoOf s symbol ⌝ }
 {
     if 511 < symbol {
@@ -131,7 +131,7 @@ pub fn echo(s: Sender, symbol: u16) -> Said
     match phase {
         Phase::Waiting => answered(Answer::Ignored, s),
         Phase::Awaiting => {
-            if symbol == symbol_at(s, s.place) {
+            if symbol == symbol_at(s, s.position) {
                 heard_right(s)
             } else {
                 heard_wrong(s)
@@ -160,33 +160,33 @@ pub fn is_sound(s: Sender) -> bool
         return false;
     }
     let phase = s.phase;
-    phase_sound(phase, s.place, n, s.failures, s.limit)
+    phase_sound(phase, s.position, n, s.failures, s.limit)
 }
 
-fn phase_sound(phase: Phase, place: u8, size: u8, failures: u8, limit: u8) -> bool
-    ensures { λ r. ⌜ r ≡ phaseSound phase place size failures limit ⌝ }
+fn phase_sound(phase: Phase, position: u8, size: u8, failures: u8, limit: u8) -> bool
+    ensures { λ r. ⌜ r ≡ phaseSound phase position size failures limit ⌝ }
 {
     match phase {
         Phase::Waiting => {
-            if place == 0 {
+            if position == 0 {
                 return failures < limit;
             }
             false
         }
         Phase::Awaiting => {
-            if place < size {
+            if position < size {
                 return failures < limit;
             }
             false
         }
         Phase::Done => {
-            if place == size {
+            if position == size {
                 return failures < limit;
             }
             false
         }
         Phase::GaveUp => {
-            if place == 0 {
+            if position == 0 {
                 return failures == limit;
             }
             false
@@ -201,11 +201,11 @@ fn length_of(s: Sender) -> u8
     3 + s.datagram[1] % 16
 }
 
-// The symbol at a place of the datagram.
-fn symbol_at(s: Sender, place: u8) -> u16
-    ensures { λ r. ⌜ (place < lengthOf s → r ≡ symbolAt s place) ⌝ }
+// The symbol at a position of the datagram.
+fn symbol_at(s: Sender, position: u8) -> u16
+    ensures { λ r. ⌜ (position < lengthOf s → r ≡ symbolAt s position) ⌝ }
 {
-    let i = place as usize;
+    let i = position as usize;
     if i == 0 {
         return 256 + s.datagram[0] as u16;
     }
@@ -215,10 +215,10 @@ fn symbol_at(s: Sender, place: u8) -> u16
     0
 }
 
-fn answered(answer: Answer, sender: Sender) -> Said
+fn answered(answer: Answer, sender: Sender) -> Outcome
     ensures { λ r. ⌜ r ≡ outcome answer sender ⌝ }
 {
-    Said {
+    Outcome {
         answer: answer,
         sender: sender,
     }
@@ -233,7 +233,7 @@ pub fn refused_offer(refusal: Refusal) -> Offered
         sender: Sender {
             phase: Phase::Waiting,
             datagram: [0; 18],
-            place: 0,
+            position: 0,
             wait: 0,
             limit: 0,
             failures: 0,
@@ -255,15 +255,15 @@ fn padded(bytes: &[u8]) -> [u8; 18]
     out
 }
 
-// The sender in another phase, at another place, with other failures.
-fn moved(s: Sender, phase: Phase, place: u8, failures: u8) -> Sender
-    ensures { λ r. ⌜ r ≡ movedTo s phase place failures ⌝ }
+// The sender in another phase, at another position, with other failures.
+fn moved(s: Sender, phase: Phase, position: u8, failures: u8) -> Sender
+    ensures { λ r. ⌜ r ≡ movedTo s phase position failures ⌝ }
 {
     let datagram = s.datagram;
     Sender {
         phase: phase,
         datagram: datagram,
-        place: place,
+        position: position,
         wait: s.wait,
         limit: s.limit,
         failures: failures,
@@ -271,7 +271,7 @@ fn moved(s: Sender, phase: Phase, place: u8, failures: u8) -> Sender
 }
 
 // A poll while waiting: the command symbol once the wait is over.
-fn started(s: Sender, silence: u32) -> Said
+fn started(s: Sender, silence: u32) -> Outcome
     ensures { λ r. ⌜ r ≡ polled Phase.Waiting s silence ⌝ }
 {
     let wait = s.wait as u32;
@@ -285,11 +285,11 @@ fn started(s: Sender, silence: u32) -> Said
 }
 
 // The awaited symbol was heard.
-fn heard_right(s: Sender) -> Said
-    requires { ⌜ s .place < lengthOf s ⌝ }
+fn heard_right(s: Sender) -> Outcome
+    requires { ⌜ s .position < lengthOf s ⌝ }
     ensures { λ r. ⌜ r ≡ heardRight s ⌝ }
 {
-    let next = s.place + 1;
+    let next = s.position + 1;
     if next == length_of(s) {
         answered(Answer::Done, moved(s, Phase::Done, next, s.failures))
     } else {
@@ -302,7 +302,7 @@ fn heard_right(s: Sender) -> Said
 }
 
 // Another symbol was heard: the whole datagram is sent again, or the sender gives up.
-fn heard_wrong(s: Sender) -> Said
+fn heard_wrong(s: Sender) -> Outcome
     requires { ⌜ s .failures < s .limit ⌝ }
     ensures { λ r. ⌜ r ≡ heardWrong s ⌝ }
 {

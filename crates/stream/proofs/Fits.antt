@@ -21,7 +21,7 @@ use Rattle.progress.specs.declared.Progress.{Progress}
 use Rattle.progress.specs.declared.Stop.{Stop}
 use Rattle.progress.specs.declared.Stop.the-variants.{Running}
 use Rattle.progress.specs.Progress.{advanced}
-use Rattle.framing.specs.Taken.{entry}
+use Rattle.framing.specs.Steps.{entry}
 use Rattle.framing.specs.Walk.{Walk, walk, behind, entryOf, lineRoom, walkRecord, walkFrom}
 use Rattle.listing.specs.Text.{Placed, placed}
 use Rattle.listing.specs.Line.{lineOf, headerLine}

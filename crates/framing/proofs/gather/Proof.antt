@@ -7,15 +7,15 @@ use native.Mathlib.Omega.{arith}
 use lib.ListN.{getD}
 use Rattle.recording.specs.Record.{byteOf}
 use Rattle.framing.proofs.Gathering.{Gathering, gathered-one, gathered-more, plain}
-use Rattle.framing.proofs.Takes.{unused, gave-stray, gave-cancelled, gave-whole}
+use Rattle.framing.proofs.Steps.{unused, gathered-stray, gathered-cancelled, gathered-whole}
 use Rattle.framing.proofs.gather.Statement.{statement}
 use Rattle.framing.proofs.gather.Tie as tie
 
 abbrev Inv-loop : tie.InvT-loop
-Inv-loop idle input at bytes₀ left n i₀ bytes i = (0 < i) × (i ≤ n) × Gathering input at bytes i
+Inv-loop empty input at bytes₀ left n i₀ bytes i = (0 < i) × (i ≤ n) × Gathering input at bytes i
 
 abbrev μ-loop : tie.MeasureT-loop
-μ-loop idle input at bytes₀ left n i₀ bytes i = n - i
+μ-loop empty input at bytes₀ left n i₀ bytes i = n - i
 
 gives-requires : tie.Need-gives-requires Inv-loop μ-loop
 gives-requires c κs = search needs
@@ -78,7 +78,7 @@ returns-6 c =
     let s = start .args .input .now in
     let at = start .args .at in
     let heard = rw plain at (c .before .before .carries2 .ensures (c .before .if7 .taken)) in
-    λ h. (not-false _ (c .before .before .before .before .before .before .before .before .before .before .if1 .left), gave-stray (byteOf s at 6) (omega (arith, c .before .before .before .before .before .before .before .if4 .left)) (omega (arith, c .before .before .before .before .before .before .before .before .before .before .before .before .shared-slice-known .given (at + 6))) heard _ (c .gives6 .ensures))
+    λ h. (not-false _ (c .before .before .before .before .before .before .before .before .before .before .if1 .left), gathered-stray (byteOf s at 6) (omega (arith, c .before .before .before .before .before .before .before .if4 .left)) (omega (arith, c .before .before .before .before .before .before .before .before .before .before .before .before .shared-slice-known .given (at + 6))) heard _ (c .gives6 .ensures))
 
 gives-requires-7 : tie.Need-gives-requires-7 Inv-loop μ-loop
 gives-requires-7 c κs = search needs
@@ -127,7 +127,7 @@ returns-8 c =
     let s = start .args .input .now in
     let at = start .args .at in
     let heard = c .before .before .carries4 .ensures (c .before .if9 .taken) in
-    λ h. (not-false _ (c .before .before .before .before .before .before .before .before .before .before .before .before .before .before .before .if1 .left), gave-cancelled {n = 3 + getD s (at + 14) 0 % 16} (v .inv .2) refl (omega (arith, c .before .before .before .before .before .before .before .before .before .before .if5 .left)) (byteOf s (at + 8 * v .i) 6) (v .inv .0) (c .before .before .before .before .before .loop-test .taken) (omega (arith, c .before .before .before .before .before .before .before .before .before .before .before .before .before .before .before .before .before .shared-slice-known .given (at + 8 * v .i + 6))) heard _ (c .gives8 .ensures))
+    λ h. (not-false _ (c .before .before .before .before .before .before .before .before .before .before .before .before .before .before .before .if1 .left), gathered-cancelled {n = 3 + getD s (at + 14) 0 % 16} (v .inv .2) refl (omega (arith, c .before .before .before .before .before .before .before .before .before .before .if5 .left)) (byteOf s (at + 8 * v .i) 6) (v .inv .0) (c .before .before .before .before .before .loop-test .taken) (omega (arith, c .before .before .before .before .before .before .before .before .before .before .before .before .before .before .before .before .before .shared-slice-known .given (at + 8 * v .i + 6))) heard _ (c .gives8 .ensures))
 
 gives-requires-9 : tie.Need-gives-requires-9 Inv-loop μ-loop
 gives-requires-9 c κs = search needs
@@ -187,7 +187,7 @@ returns-10 c =
     let at = start .args .at in
     let n = 3 + getD s (at + 14) 0 % 16 in
     let all : v .i ≡ n = omega (arith, c .before .before .loop-test .left, v .inv .1) in
-    λ h. (not-false _ (c .before .before .before .before .before .before .before .before .before .before .before .before .if1 .left), gave-whole {n = n} (v .inv .2) refl (omega (arith, c .before .before .before .before .before .before .before .if5 .left)) all _ (c .before .time-at .ensures) _ (c .gives10 .ensures))
+    λ h. (not-false _ (c .before .before .before .before .before .before .before .before .before .before .before .before .if1 .left), gathered-whole {n = n} (v .inv .2) refl (omega (arith, c .before .before .before .before .before .before .before .if5 .left)) all _ (c .before .time-at .ensures) _ (c .gives10 .ensures))
 
 pub gather-spec : {M : Type 1} → statement M
 gather-spec =

@@ -4,7 +4,7 @@ use mathlib.Core.Path.{_≡_, refl, sym, ap, _∙_}
 use lib.ListN.{length}
 use Rattle.listener.specs.declared.Heard.{Heard}
 use Rattle.progress.specs.declared.Stop.the-variants.{Running, Stopped}
-use Rattle.framing.proofs.Takes.{took-one, took-none}
+use Rattle.framing.proofs.Steps.{record-heard, record-ends}
 use Rattle.framing.proofs.Walks.{walk-end, walk-refused}
 use Rattle.framing.proofs.hear_record.Statement.{statement}
 use Rattle.framing.proofs.hear_record.Tie as tie
@@ -40,7 +40,7 @@ returns : tie.Need-returns
 returns c =
     let start = c .before .before .before .before .before in
     let e = c .stopped .ensures in
-    took-none Running _
+    record-ends Running _
     (λ line left room some roomy. walk-end line (start .args .input .now) (start .args .at) (start .args .p) left room some roomy (sym (c .before .before .before .record-at .ensures) ∙ c .before .enum-told .given .1))
     (e .1) (e .2) (e .3)
 
@@ -49,7 +49,7 @@ returns-2 c =
     let start = c .before .before .before .before .before .before in
     let r = c .before .before .r .given in
     let e = c .stopped2 .ensures in
-    took-none (Stopped (r .0 .0)) _
+    record-ends (Stopped (r .0 .0)) _
     (λ line left room some roomy. walk-refused line (start .args .input .now) (start .args .at) (start .args .p) left room some (r .0 .0) roomy (sym (c .before .before .before .before .record-at .ensures) ∙ r .1))
     (e .1) (e .2) (e .3)
 
@@ -58,7 +58,7 @@ returns-3 c =
     let t = c .before .before .before .before .before .time .given in
     let heard = c .before .before .before .hear .ensures in
     let long : length (c .before .before .before .hear .result .bytes) ≡ 18 = search needs in
-    took-one (t .0 .0) (t .0 .1 .0) _ (sym (c .before .before .before .before .before .before .before .record-at .ensures) ∙ t .1) (c .before .advance .ensures ∙ rw heard) refl refl (ap (λ (h : Heard). h .count) heard) (ap (λ (h : Heard). h .bytes) heard) long
+    record-heard (t .0 .0) (t .0 .1 .0) _ (sym (c .before .before .before .before .before .before .before .record-at .ensures) ∙ t .1) (c .before .advance .ensures ∙ rw heard) refl refl (ap (λ (h : Heard). h .count) heard) (ap (λ (h : Heard). h .bytes) heard) long
 
 pub hear-record-spec : {M : Type 1} → statement M
 hear-record-spec =

@@ -51,8 +51,8 @@ loop-again c =
 array-write-out-2 : tie.Need-array-write-out-2 Inv-loop μ-loop
 array-write-out-2 c = search needs
 
-silent-requires : tie.Need-silent-requires Inv-loop μ-loop
-silent-requires c κs = search needs
+empty-listener-requires : tie.Need-empty-listener-requires Inv-loop μ-loop
+empty-listener-requires c κs = search needs
 
 add-t19 : tie.Need-add-t19 Inv-loop μ-loop
 add-t19 c = search needs
@@ -68,7 +68,7 @@ returns c =
     let bytes : set (w .loop .out) (l .held) b ≡ padTo 18 (heldBytes l ++ (b ∷ [])) =
     rw (w .loop .inv .1, all) (set-pad 18 (heldBytes l) (l .held) b count (omega arith)) in
     let more : length (heldBytes l ++ (b ∷ [])) ≡ l .held + 1 = simp (length-append, count) in
-    rw (c .silent .ensures, bytes, more)
+    rw (c .empty-listener .ensures, bytes, more)
 
 pub handed-out-spec : {M : Type 1} → statement M
 handed-out-spec =
@@ -84,6 +84,6 @@ handed-out-spec =
     loop-less
     loop-again
     array-write-out-2
-    silent-requires
+    empty-listener-requires
     add-t19
     returns)

@@ -9,7 +9,7 @@ use native.Mathlib.Omega.{arith}
 use lib.ListN.{length}
 use Rattle.listener.specs.declared.Listener.{Listener}
 use Rattle.listener.specs.declared.Answer.the-variants.{Stray}
-use Rattle.listener.specs.State.{sound, heldBytes, holding}
+use Rattle.listener.specs.State.{sound, heldBytes, emptyListener}
 use Rattle.listener.specs.Step.{hearOf, step, quiet, otherSymbol}
 use Rattle.listener.proofs.Order.{refused-above, refused-unsound, step-taken}
 use Rattle.listener.proofs.Sound.{held-by, holding-held}
@@ -19,7 +19,7 @@ use Rattle.listener.proofs.hear.Tie as tie
 -- a sound state with none held is the empty one
 strays : (l : Listener) (b : ℕ) → length (l .bytes) ≡ 17 → sound l ≡ true → l .held ≡ 0 → quiet Stray l ≡ otherSymbol (heldBytes l) b
 strays l b long s e =
-    let same : l ≡ holding [] = sym (holding-held l (held-by l long s)) ∙ rw e in
+    let same : l ≡ emptyListener = sym (holding-held l (held-by l long s)) ∙ rw e in
     ap (λ (k : Listener). quiet Stray k) same ∙ rw e
 
 past-sound : (c : tie.Else2) → sound (c .before .before .before .args .l) ≡ true

@@ -8,7 +8,7 @@ use lib.ListN.{length, set, length-take}
 use Rattle.datagram.proofs.Padding.{set-pad}
 use Rattle.listener.specs.declared.Listener.{Listener}
 use Rattle.listener.specs.declared.Answer.the-variants.{Cancelled}
-use Rattle.listener.specs.State.{heldBytes, holding}
+use Rattle.listener.specs.State.{heldBytes, holding, emptyListener}
 use Rattle.listener.specs.Step.{commandSymbol, quiet}
 use Rattle.listener.proofs.opened.Statement.{statement}
 use Rattle.listener.proofs.opened.Tie as tie
@@ -17,11 +17,11 @@ cancels : (xs : List ℕ) (b : ℕ) → 0 < length xs → commandSymbol xs b ≡
 cancels [] b h = absurd (omega arith)
 cancels (x ∷ xs) b h = refl
 
-alone : (s : Listener) (b : ℕ) → s ≡ holding [] → _≡_ {A = Listener} (record { bytes = set (s .bytes) 0 b; held = 1 }) (holding (b ∷ []))
+alone : (s : Listener) (b : ℕ) → s ≡ emptyListener → _≡_ {A = Listener} (record { bytes = set (s .bytes) 0 b; held = 1 }) (holding (b ∷ []))
 alone s b e = rw (e, set-pad 17 [] 0 b refl (omega arith))
 
-silent-requires : tie.Need-silent-requires
-silent-requires c κs = search needs
+empty-listener-requires : tie.Need-empty-listener-requires
+empty-listener-requires c κs = search needs
 
 element-write-next : tie.Need-element-write-next
 element-write-next c = search needs
@@ -35,7 +35,7 @@ without-bytes-requires-2 c κs = search needs
 returns : tie.Need-returns
 returns c =
     let w = c .before .before .before in
-    c .without-bytes .ensures ∙ rw (c .before .if1 .taken, alone (w .silent .result) (w .before .args .byte) (w .silent .ensures))
+    c .without-bytes .ensures ∙ rw (c .before .if1 .taken, alone (w .empty-listener .result) (w .before .args .byte) (w .empty-listener .ensures))
 
 returns-2 : tie.Need-returns-2
 returns-2 c =
@@ -44,14 +44,14 @@ returns-2 c =
     let long : length (l .bytes) ≡ 17 = search needs in
     let some : 0 < length (heldBytes l) = rw length-take (omega arith) in
     c .without-bytes2 .ensures
-    ∙ ap (λ (s : Listener). quiet Cancelled s) (alone (w .silent .result) (w .before .args .byte) (w .silent .ensures))
+    ∙ ap (λ (s : Listener). quiet Cancelled s) (alone (w .empty-listener .result) (w .before .args .byte) (w .empty-listener .ensures))
     ∙ sym (cancels (heldBytes l) (w .before .args .byte) some)
 
 pub opened-spec : {M : Type 1} → statement M
 opened-spec =
     tie.close
     (tie.spec
-    silent-requires
+    empty-listener-requires
     element-write-next
     without-bytes-requires
     without-bytes-requires-2

@@ -68,23 +68,23 @@ returns-3 c =
     let text = decimal-three (c .before .before .before .before .before .before .before .before .args .n) (c .before .before .before .before .before .if2 .left) (c .before .before .before .before .if3 .taken) in
     record { stored = c .before .before .store-pair2 .ensures ∙ rw (text, add-one); moved = rw text (omega arith) }
 
-places-requires : tie.Need-places-requires
-places-requires c κs = search needs
+digit-count-requires : tie.Need-digit-count-requires
+digit-count-requires c κs = search needs
 
 add-end : tie.Need-add-end
-add-end c = omega (arith, c .places .ensures, decimal-most (c .before .before .before .before .before .args .n))
+add-end c = omega (arith, c .digit-count .ensures, decimal-most (c .before .before .before .before .before .args .n))
 
 store-digits-requires : tie.Need-store-digits-requires
 store-digits-requires c κs =
     let most = decimal-most (c .before .before .before .before .before .before .args .n) in
-    (c .before .before .before .before .before .before .pre .0, omega (arith, c .before .places .ensures), omega (arith, c .before .places .ensures, most))
+    (c .before .before .before .before .before .before .pre .0, omega (arith, c .before .digit-count .ensures), omega (arith, c .before .digit-count .ensures, most))
 
 same-length-4 : tie.Need-same-length-4
 same-length-4 c = c .before .before .store-digits .kept .1 .0
 
 returns-4 : tie.Need-returns-4
 returns-4 c =
-    record { stored = c .before .before .store-digits .ensures; moved = omega (arith, c .before .before .before .before .places .ensures) }
+    record { stored = c .before .before .store-digits .ensures; moved = omega (arith, c .before .before .before .before .digit-count .ensures) }
 
 pub put-decimal-spec : {M : Type 1} → statement M
 put-decimal-spec =
@@ -108,7 +108,7 @@ put-decimal-spec =
     add-result-3
     same-length-3
     returns-3
-    places-requires
+    digit-count-requires
     add-end
     store-digits-requires
     same-length-4

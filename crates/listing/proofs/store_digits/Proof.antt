@@ -3,7 +3,7 @@ use borrow.Author.Needs.{needs}
 use mathlib.Core.Path.{_∙_}
 use native.Mathlib.Omega.{arith}
 use lib.ListN.{length-set}
-use Rattle.listing.proofs.Decimal.{Partly, partly-none, partly-length, partly-more, partly-keeps, place-one, partly-one, place-two, partly-two}
+use Rattle.listing.proofs.Decimal.{Partly, partly-none, partly-length, partly-more, partly-keeps, ends-one, partly-one, ends-two, partly-two}
 use Rattle.listing.proofs.store_digits.Statement.{statement}
 use Rattle.listing.proofs.store_digits.Tie as tie
 
@@ -22,7 +22,7 @@ sub-e c = omega (arith, partly-length (c .before .loop .inv) (c .loop-test .take
 store-pair-requires : tie.Need-store-pair-requires Inv-loop μ-loop
 store-pair-requires c κs =
     let p = c .before .before .loop .inv in
-    (c .before .before .before .before .pre .0, omega arith, omega (arith, p .place, partly-keeps p, partly-length p (c .before .loop-test .taken)))
+    (c .before .before .before .before .pre .0, omega arith, omega (arith, p .ends, partly-keeps p, partly-length p (c .before .loop-test .taken)))
 
 loop-less : tie.Need-loop-less Inv-loop μ-loop
 loop-less c = search needs
@@ -40,12 +40,12 @@ add-out c = search needs
 slice-write-out : tie.Need-slice-write-out Inv-loop μ-loop
 slice-write-out c =
     let p = c .before .before .loop .inv in
-    omega (arith, p .place, partly-keeps p, place-one p (c .if1 .taken))
+    omega (arith, p .ends, partly-keeps p, ends-one p (c .if1 .taken))
 
 store-pair-requires-2 : tie.Need-store-pair-requires-2 Inv-loop μ-loop
 store-pair-requires-2 c κs =
     let p = c .before .before .before .loop .inv in
-    (c .before .before .before .before .before .pre .0, omega arith, omega (arith, p .place, partly-keeps p, place-two p (omega arith) (omega arith)))
+    (c .before .before .before .before .before .pre .0, omega arith, omega (arith, p .ends, partly-keeps p, ends-two p (omega arith) (omega arith)))
 
 same-length : tie.Need-same-length Inv-loop μ-loop
 same-length c = rw length-set (partly-keeps (c .before .before .loop .inv))

@@ -1,4 +1,4 @@
--- `row_at` gives each number below 20 the table's row at that place, and any other none: the table has 20 rows.
+-- `row_at` gives each number below 20 the table's row at that index, and any other none: the table has 20 rows.
 use borrow.Author.Needs.{needs}
 use mathlib.Core.Path.{_≡_, refl, sym, ap}
 use native.Mathlib.Omega.{arith}
@@ -8,14 +8,14 @@ use Rattle.message.specs.Table.{kinds, rowAt, first}
 use Rattle.message.proofs.row_at.Statement.{statement}
 use Rattle.message.proofs.row_at.Tie as tie
 
--- the place is none of the first n, in the form in which a `match` tells that no arm was taken
+-- the index is none of the first n, in the form in which a `match` tells that no arm was taken
 abbrev Skipped : ℕ → ℕ → Type 0
-Skipped zero place = Unit
-Skipped (suc n) place = Skipped n place × (place ≡ n → ⊥)
+Skipped zero index = Unit
+Skipped (suc n) index = Skipped n index × (index ≡ n → ⊥)
 
-skipped : (n place : ℕ) → Skipped n place → n ≤ place
-skipped zero place s = omega arith
-skipped (suc n) place s = let before = skipped n place (s .0) in omega (arith, before, s .1)
+skipped : (n index : ℕ) → Skipped n index → n ≤ index
+skipped zero index s = omega arith
+skipped (suc n) index s = let before = skipped n index (s .0) in omega (arith, before, s .1)
 
 rows-requires : tie.Need-rows-requires
 rows-requires c κs = search needs
@@ -162,7 +162,7 @@ returns-20 c = rw (c .before .match .keys20, c .before .before .rows .ensures) r
 
 returns-21 : tie.Need-returns-21
 unfolding kinds rowAt
-returns-21 c = sym (ap first (drop-of-length-le kinds (skipped 20 (c .before .before .args .place) (c .match .rest))))
+returns-21 c = sym (ap first (drop-of-length-le kinds (skipped 20 (c .before .before .args .index) (c .match .rest))))
 
 pub row-at-spec : {M : Type 1} → statement M
 row-at-spec =

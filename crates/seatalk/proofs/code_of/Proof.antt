@@ -7,7 +7,7 @@ use mir.Syntax.{w32}
 use mir.Val.{toZ, ofZ, SFits}
 use mir.ValLaws.{toZ-pos, toZ-ofZ}
 use Rattle.number.proofs.Signed.{diff-small}
-use Rattle.seatalk.specs.Told.{codeOf}
+use Rattle.seatalk.specs.Returned.{codeOf}
 use borrow.Author.Needs.{needs}
 use Rattle.seatalk.proofs.code_of.Statement.{statement}
 use Rattle.seatalk.proofs.code_of.Tie as tie

@@ -26,7 +26,7 @@ goes-by c p e =
     rw (le-ltb 511 (a .symbol) (omega arith), past-sound c) (ap (λ (q : Phase). echoed q (a .s) (a .symbol)) e)
 
 -- where it awaits an echo
-awaiting : (c : tie.After-enum-told2) → let s = c .before .before .before .before .before .args .s in (s .place < lengthOf s) × (s .failures < s .limit)
+awaiting : (c : tie.After-enum-told2) → let s = c .before .before .before .before .before .args .s in (s .position < lengthOf s) × (s .failures < s .limit)
 awaiting c = awaits _ (past-sound (c .before .before)) (c .enum-told2 .given .1)
 
 -- 1 comes first, whatever the state
@@ -93,7 +93,7 @@ returns-4 c =
     let a = k .before .before .before .before .before .before .args in
     let awaited = k .symbol-at .ensures (omega (arith, awaiting (k .before))) in
     c .heard-right .ensures
-    ∙ sym (goes-by (k .before .before .before) _ (k .before .enum-told2 .given .1) ∙ rw (eq-eqb (a .symbol) (symbolAt (a .s) (a .s .place)) (omega arith)))
+    ∙ sym (goes-by (k .before .before .before) _ (k .before .enum-told2 .given .1) ∙ rw (eq-eqb (a .symbol) (symbolAt (a .s) (a .s .position)) (omega arith)))
 
 returns-5 : tie.Need-returns-5
 returns-5 c =
@@ -101,7 +101,7 @@ returns-5 c =
     let a = k .before .before .before .before .before .before .args in
     let awaited = k .symbol-at .ensures (omega (arith, awaiting (k .before))) in
     c .heard-wrong .ensures
-    ∙ sym (goes-by (k .before .before .before) _ (k .before .enum-told2 .given .1) ∙ rw (ne-eqb (a .symbol) (symbolAt (a .s) (a .s .place)) (λ e. omega arith)))
+    ∙ sym (goes-by (k .before .before .before) _ (k .before .enum-told2 .given .1) ∙ rw (ne-eqb (a .symbol) (symbolAt (a .s) (a .s .position)) (λ e. omega arith)))
 
 returns-6 : tie.Need-returns-6
 returns-6 c = c .answered4 .ensures ∙ sym (goes-by (c .before .before .before) _ (c .before .enum-told3 .given .1))

@@ -1,4 +1,4 @@
--- `heard_right` compares the next place with the length as the definition does; a next place that is not the length is below it.
+-- `heard_right` compares the next position with the length as the definition does; a next position that is not the length is below it.
 use borrow.Author.Needs.{needs}
 use borrow.Author.Tests.{eq-eqb, ne-eqb}
 use Prim.Native.Nat.{_+_}
@@ -32,12 +32,12 @@ answered-requires-2 c κs = search needs
 returns : tie.Need-returns
 returns c =
     let s = c .before .before .before .before .before .args .s in
-    c .answered .ensures ∙ rw (c .before .moved .ensures, eq-eqb (s .place + 1) (lengthOf s) (omega arith))
+    c .answered .ensures ∙ rw (c .before .moved .ensures, eq-eqb (s .position + 1) (lengthOf s) (omega arith))
 
 returns-2 : tie.Need-returns-2
 returns-2 c =
     let s = c .before .before .before .before .before .before .args .s in
-    c .answered2 .ensures ∙ rw (c .before .moved2 .ensures, ne-eqb (s .place + 1) (lengthOf s) (λ e. omega arith), c .before .before .symbol-at .ensures (omega arith))
+    c .answered2 .ensures ∙ rw (c .before .moved2 .ensures, ne-eqb (s .position + 1) (lengthOf s) (λ e. omega arith), c .before .before .symbol-at .ensures (omega arith))
 
 pub heard-right-spec : {M : Type 1} → statement M
 heard-right-spec =

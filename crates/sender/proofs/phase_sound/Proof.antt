@@ -11,7 +11,7 @@ enum-told c = search needs
 returns : tie.Need-returns
 returns c =
     let a = c .before .before .before .args in
-    rw (c .before .enum-told .given .1, eq-eqb (a .place) 0 (omega arith))
+    rw (c .before .enum-told .given .1, eq-eqb (a .position) 0 (omega arith))
 
 enum-told-2 : tie.Need-enum-told-2
 enum-told-2 c = search needs
@@ -19,7 +19,7 @@ enum-told-2 c = search needs
 returns-2 : tie.Need-returns-2
 returns-2 c =
     let a = c .before .before .before .args in
-    rw (c .before .enum-told2 .given .1, lt-ltb (a .place) (a .size) (omega arith))
+    rw (c .before .enum-told2 .given .1, lt-ltb (a .position) (a .size) (omega arith))
 
 enum-told-3 : tie.Need-enum-told-3
 enum-told-3 c = search needs
@@ -27,7 +27,7 @@ enum-told-3 c = search needs
 returns-3 : tie.Need-returns-3
 returns-3 c =
     let a = c .before .before .before .args in
-    rw (c .before .enum-told3 .given .1, eq-eqb (a .place) (a .size) (omega arith))
+    rw (c .before .enum-told3 .given .1, eq-eqb (a .position) (a .size) (omega arith))
 
 enum-told-4 : tie.Need-enum-told-4
 enum-told-4 c = search needs
@@ -35,27 +35,27 @@ enum-told-4 c = search needs
 returns-4 : tie.Need-returns-4
 returns-4 c =
     let a = c .before .before .before .args in
-    rw (c .before .enum-told4 .given .1, eq-eqb (a .place) 0 (omega arith))
+    rw (c .before .enum-told4 .given .1, eq-eqb (a .position) 0 (omega arith))
 
 returns-5 : tie.Need-returns-5
 returns-5 c =
     let a = c .before .before .before .args in
-    rw (c .before .enum-told .given .1, ne-eqb (a .place) 0 (λ e. omega arith))
+    rw (c .before .enum-told .given .1, ne-eqb (a .position) 0 (λ e. omega arith))
 
 returns-6 : tie.Need-returns-6
 returns-6 c =
     let a = c .before .before .before .args in
-    rw (c .before .enum-told2 .given .1, le-ltb (a .place) (a .size) (omega arith))
+    rw (c .before .enum-told2 .given .1, le-ltb (a .position) (a .size) (omega arith))
 
 returns-7 : tie.Need-returns-7
 returns-7 c =
     let a = c .before .before .before .args in
-    rw (c .before .enum-told3 .given .1, ne-eqb (a .place) (a .size) (λ e. omega arith))
+    rw (c .before .enum-told3 .given .1, ne-eqb (a .position) (a .size) (λ e. omega arith))
 
 returns-8 : tie.Need-returns-8
 returns-8 c =
     let a = c .before .before .before .args in
-    rw (c .before .enum-told4 .given .1, ne-eqb (a .place) 0 (λ e. omega arith))
+    rw (c .before .enum-told4 .given .1, ne-eqb (a .position) 0 (λ e. omega arith))
 
 pub phase-sound-spec : {M : Type 1} → statement M
 phase-sound-spec =

@@ -1,4 +1,4 @@
--- `started` compares the wait with the silence as the definition does. The first place is below any length.
+-- `started` compares the wait with the silence as the definition does. The first position is below any length.
 use borrow.Author.Needs.{needs}
 use borrow.Author.Tests.{le-leb, lt-leb}
 use mathlib.Core.Path.{_∙_}

@@ -1,4 +1,4 @@
--- `symbol_at` reads the byte at the place, with the command bit on the first. A place below the length is below 18.
+-- `symbol_at` reads the byte at the position, with the command bit on the first. A position below the length is below 18.
 use borrow.Author.Needs.{needs}
 use mathlib.Core.Path.{sym}
 use native.Mathlib.Omega.{arith}
@@ -32,7 +32,7 @@ cast-result-2 c = search needs
 returns-2 : tie.Need-returns-2
 returns-2 c h =
     let a = c .before .before .before .args in
-    sym (symbol-later (a .t1) (a .place) (omega arith) h)
+    sym (symbol-later (a .t1) (a .position) (omega arith) h)
 
 returns-3 : tie.Need-returns-3
 returns-3 c h = absurd (omega arith)

@@ -10,15 +10,15 @@ use native.Mathlib.Omega.{arith}
 use denote.Ref.{now}
 use lib.ListN.{length, take}
 use lib.Seq.{length-take-le}
-use Rattle.listener.specs.State.{holding}
+use Rattle.listener.specs.State.{emptyListener}
 use Rattle.listener.proofs.Sound.{empty-is}
 use Rattle.progress.specs.declared.Stop.the-variants.{Running}
 use Rattle.listing.specs.Text.{Kept, decimal}
-use Rattle.framing.specs.Taken.{entry}
+use Rattle.framing.specs.Steps.{entry}
 use Rattle.framing.specs.Walk.{walkFrom}
 use Rattle.listing.specs.Line.{lineOf}
 use Rattle.listing.proofs.Put.{put-length}
-use Rattle.framing.proofs.Takes.{Stepped, stepped-gave, stepped-took}
+use Rattle.framing.proofs.Steps.{Stepped, stepped-gather, stepped-record}
 use Rattle.framing.proofs.Walks.{walk-full}
 use Rattle.listing.proofs.Short.{entry-short}
 use Rattle.listing.proofs.Walks.{Going, started, went, ended}
@@ -26,13 +26,13 @@ use Rattle.listing.proofs.block.list_block.Statement.{statement}
 use Rattle.listing.proofs.block.list_block.Tie as tie
 
 abbrev Inv-loop : tie.InvT-loop
-Inv-loop input out₀ pairs bytes₀ digits₀ stamp₀ p₀ idle₀ left₀ at₀ place₀ out bytes digits stamp p idle left at place = Going input out₀ p₀ left₀ out p left at place × (idle ≡ true → p .listener ≡ holding []) × (length bytes ≡ 18) × Kept digits (stamp .myriads) (stamp .count)
+Inv-loop input out₀ pairs bytes₀ digits₀ stamp₀ p₀ empty₀ left₀ at₀ written₀ out bytes digits stamp p empty left at written = Going input out₀ p₀ left₀ out p left at written × (empty ≡ true → p .listener ≡ emptyListener) × (length bytes ≡ 18) × Kept digits (stamp .leading) (stamp .count)
 
 abbrev μ-loop : tie.MeasureT-loop
-μ-loop input out₀ pairs bytes₀ digits₀ stamp₀ p₀ idle₀ left₀ at₀ place₀ out bytes digits stamp p idle left at place = left
+μ-loop input out₀ pairs bytes₀ digits₀ stamp₀ p₀ empty₀ left₀ at₀ written₀ out bytes digits stamp p empty left at written = left
 
 -- the room that is left for text holds a line
-roomy : (c : tie.Joined2 Inv-loop μ-loop) → 512 ≤ length (now (c .before .before .before .before .before .before .before .before .before .before .before .args .out)) - c .before .before .before .before .before .before .loop .place
+roomy : (c : tie.Joined2 Inv-loop μ-loop) → 512 ≤ length (now (c .before .before .before .before .before .before .before .before .before .before .before .args .out)) - c .before .before .before .before .before .before .loop .written
 roomy c = omega (arith, c .before .before .before .before .if1 .left, put-length (c .before .before .before .before .before .before .loop .inv .0 .put))
 
 -- in either way the walk goes on behind what was handed out
@@ -40,17 +40,17 @@ stepped : (c : tie.Joined2 Inv-loop μ-loop)
     → let a = c .before .before .before .before .before .before .before .before .before .before .before .args in
     let v = c .before .before .before .before .before .before .loop in
     let j = c .if2 in
-    Stepped lineOf (now (a .input)) (v .at) (v .left) (v .p) (length (now (a .out)) - v .place) (j .bytes) (j .p) (j .idle) (j .used) (j .count) (j .time)
+    Stepped lineOf (now (a .input)) (v .at) (v .left) (v .p) (length (now (a .out)) - v .written) (j .bytes) (j .p) (j .empty) (j .used) (j .count) (j .time)
 stepped c =
     let v = c .before .before .before .before .before .before .loop in
     let g = c .before .before .gather in
     let long : length (g .last .1 .1 .1 .0) ≡ 18 = search needs in
     elim (c .if2 .came) [
       | inl w ↦
-          let gave = g .ensures (w .0 .taken) in
-          stepped-gave (roomy c) (g .result) (gave .1) (v .inv .0 .all) long (w .0 .taken) (v .inv .1 (gave .0)) (w .2) (w .3 ∙ w .1 .ensures) (w .5) (w .6) (w .7)
+          let step = g .ensures (w .0 .taken) in
+          stepped-gather (roomy c) (g .result) (step .1) (v .inv .0 .all) long (w .0 .taken) (v .inv .1 (step .0)) (w .2) (w .3 ∙ w .1 .ensures) (w .5) (w .6) (w .7)
       | inr w ↦
-          stepped-took (roomy c) (w .1 .result) (w .1 .ensures) (omega (arith, w .3 .left)) (c .before .before .before .before .before .loop-test .taken) (w .6) (w .7) (w .8) (w .9) (w .10) (w .11)
+          stepped-record (roomy c) (w .1 .result) (w .1 .ensures) (omega (arith, w .3 .left)) (c .before .before .before .before .before .loop-test .taken) (w .6) (w .7) (w .8) (w .9) (w .10) (w .11)
     ]
 
 digit-pairs-requires : tie.Need-digit-pairs-requires Inv-loop μ-loop
@@ -80,7 +80,7 @@ returns c =
     let v = c .before .before .before .loop in
     let g = v .inv .0 in
     let a = c .before .before .before .before .before .before .before .before .args in
-    ended g Running _ (walk-full lineOf (now (a .input)) (v .at) (v .p) (v .left) (length (now (a .out)) - v .place) (c .before .before .loop-test .taken) (omega (arith, c .before .if1 .taken, put-length (g .put)))) (c .listed .ensures)
+    ended g Running _ (walk-full lineOf (now (a .input)) (v .at) (v .p) (v .left) (length (now (a .out)) - v .written) (c .before .before .loop-test .taken) (omega (arith, c .before .if1 .taken, put-length (g .put)))) (c .listed .ensures)
 
 slice-aggregate-gather : tie.Need-slice-aggregate-gather Inv-loop μ-loop
 slice-aggregate-gather c = sym (c .before .before .before .loop .inv .2)
@@ -106,7 +106,7 @@ returns-2 c =
     let v = c .before .before .before .before .before .before .before .before .before .before .loop in
     let g = v .inv .0 in
     let none = c .before .before .before .hear-record .ensures .ends (c .before .if3 .taken) in
-    ended g (c .before .before .before .hear-record .result .stop) _ (none lineOf (v .left) (length (now (a .out)) - v .place) (c .before .before .before .before .before .before .before .before .before .loop-test .taken) (omega (arith, c .before .before .before .before .before .before .before .before .if1 .left, put-length (g .put)))) (c .listed2 .ensures)
+    ended g (c .before .before .before .hear-record .result .stop) _ (none lineOf (v .left) (length (now (a .out)) - v .written) (c .before .before .before .before .before .before .before .before .before .loop-test .taken) (omega (arith, c .before .before .before .before .before .before .before .before .if1 .left, put-length (g .put)))) (c .listed2 .ensures)
 
 slice-aggregate-put-entry : tie.Need-slice-aggregate-put-entry Inv-loop μ-loop
 slice-aggregate-put-entry c = search needs

@@ -5,7 +5,7 @@ use lib.ListN.{length}
 use Rattle.seatalk.specs.declared.hear.Numbered.the-variants.{Number, Refused}
 use Rattle.seatalk.specs.Hear.{numberOf}
 use borrow.Author.Needs.{needs}
-use Rattle.named.proofs.Signs.{handed}
+use Rattle.from_fields.proofs.Signs.{handed}
 use Rattle.seatalk.proofs.Kept.{one-longer}
 use Rattle.seatalk.proofs.hear.answer.Statement.{statement}
 use Rattle.seatalk.proofs.hear.answer.Tie as tie

@@ -8,7 +8,7 @@ use Rattle.datagram.specs.Refusals.{symbolAbove, notSound}
 use Rattle.listener.specs.Step.{hearOf}
 use Rattle.seatalk.specs.Hear.{refused, listenerOf, hearCall}
 use borrow.Author.Needs.{needs}
-use Rattle.named.proofs.Signs.{handed}
+use Rattle.from_fields.proofs.Signs.{handed}
 use Rattle.seatalk.proofs.hear.hear.Statement.{statement}
 use Rattle.seatalk.proofs.hear.hear.Tie as tie
 

@@ -7,18 +7,18 @@ use Rattle.datagram.specs.declared.Refusal.{Refusal}
 use Rattle.message.specs.declared.Reading.{Reading}
 use Rattle.message.specs.declared.Reading.the-variants.{Refused}
 use Rattle.message.specs.Reading.{readOf}
-use Rattle.roundtrip.proofs.RoundTrip.{round-trip}
-use Rattle.named.proofs.Signs.{handed}
-use Rattle.seatalk.specs.Told.{told, codeOf}
-use Rattle.seatalk.specs.Read.{readTold, readCall}
+use Rattle.roundtrip_laws.proofs.RoundTrip.{round-trip}
+use Rattle.from_fields.proofs.Signs.{handed}
+use Rattle.seatalk.specs.Returned.{returned, codeOf}
+use Rattle.seatalk.specs.Read.{readReturned, readCall}
 use borrow.Author.Needs.{needs}
 use Rattle.seatalk.proofs.read.read.Statement.{statement}
 use Rattle.seatalk.proofs.read.read.Tie as tie
 
 -- the reader's refusal comes first, whatever the room
-unread : (bytes result : List ℕ) (r : Refusal) → readOf bytes ≡ Refused r → readCall bytes result ≡ told (codeOf r) result
+unread : (bytes result : List ℕ) (r : Refusal) → readOf bytes ≡ Refused r → readCall bytes result ≡ returned (codeOf r) result
 unfolding readCall
-unread bytes result r e = ap (λ (v : Reading). readTold v result) e
+unread bytes result r e = ap (λ (v : Reading). readReturned v result) e
 
 read-requires : tie.Need-read-requires
 read-requires c κs = search needs
@@ -32,8 +32,8 @@ code-of-requires c κs = search needs
 enum-known-m : tie.Need-enum-known-m
 enum-known-m c = search needs
 
-place-requires : tie.Need-place-requires
-place-requires c κs = round-trip .read-in-range _ _ (sym (c .before .before .before .before .read .ensures) ∙ c .before .before .m .given .1)
+put-fields-requires : tie.Need-put-fields-requires
+put-fields-requires c κs = round-trip .read-in-range _ _ (sym (c .before .before .before .before .read .ensures) ∙ c .before .before .m .given .1)
 
 returns : tie.Need-returns
 returns c =
@@ -48,7 +48,7 @@ returns-2 : tie.Need-returns-2
 unfolding readCall
 returns-2 c =
     let r = c .before .before .before .before .before .before .before .read in
-    let p = c .before .before .place in
+    let p = c .before .before .put-fields in
     rw (handed (record { sfits = p .ok }) refl, ← r .ensures, c .before .before .before .before .before .m .given .1)
     (p .ensures)
 
@@ -60,7 +60,7 @@ read-spec =
     enum-known-r
     code-of-requires
     enum-known-m
-    place-requires
+    put-fields-requires
     returns
     same-length
     returns-2)

@@ -10,8 +10,8 @@ use mir.Syntax.{w32, w64}
 use mir.Val.{SFits, toZ, ofZ}
 use mir.ValLaws.{toZ-ofZ}
 use Rattle.number.proofs.Signed.{wide}
-use Rattle.named.specs.Numbers.{AllFit, fieldBytes, fieldsBytes}
-use Rattle.named.proofs.Each.{front-length, one-more}
+use Rattle.from_fields.specs.Numbers.{AllFit, fieldBytes, fieldsBytes}
+use Rattle.from_fields.proofs.Each.{front-length, one-more}
 use borrow.Author.Needs.{needs}
 use Rattle.seatalk.proofs.read.store.Statement.{statement}
 use Rattle.seatalk.proofs.read.store.Tie as tie

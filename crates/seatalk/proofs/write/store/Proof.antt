@@ -5,7 +5,7 @@ use Prim.Native.Nat.{_-_, _*_, _≤_}
 use native.Mathlib.Numerals.{add-one}
 use native.Mathlib.Omega.{arith}
 use lib.ListN.{length, length-set, take, drop}
-use Rattle.named.proofs.Each.{front-length, one-more}
+use Rattle.from_fields.proofs.Each.{front-length, one-more}
 use Rattle.seatalk.specs.Write.{symbolBytes, symbolsBytes}
 use borrow.Author.Needs.{needs}
 use Rattle.seatalk.proofs.write.store.Statement.{statement}

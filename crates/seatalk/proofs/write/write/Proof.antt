@@ -4,23 +4,23 @@ use mathlib.Core.Path.{_≡_, refl, sym, ap, _∙_}
 use mathlib.Core.List.{List}
 use denote.Ref.{now}
 use Rattle.datagram.specs.declared.Refusal.{Refusal}
-use Rattle.named.specs.declared.Naming.{Naming}
-use Rattle.named.specs.declared.Naming.the-variants.{Refused}
-use Rattle.named.specs.Naming.{namedOf}
-use Rattle.named.proofs.Signs.{handed}
-use Rattle.seatalk.specs.Told.{told, codeOf}
-use Rattle.seatalk.specs.Write.{nameTold, writeCall}
+use Rattle.from_fields.specs.declared.Naming.{Naming}
+use Rattle.from_fields.specs.declared.Naming.the-variants.{Refused}
+use Rattle.from_fields.specs.Naming.{namedOf}
+use Rattle.from_fields.proofs.Signs.{handed}
+use Rattle.seatalk.specs.Returned.{returned, codeOf}
+use Rattle.seatalk.specs.Write.{namedReturned, writeCall}
 use borrow.Author.Needs.{needs}
 use Rattle.seatalk.proofs.write.write.Statement.{statement}
 use Rattle.seatalk.proofs.write.write.Tie as tie
 
 -- 4, 5 and a bad flag's 7 come first, whatever the room
-unnamed : (command : ℕ) (fields result : List ℕ) (r : Refusal) → namedOf command fields ≡ Refused r → writeCall command fields result ≡ told (codeOf r) result
+unnamed : (command : ℕ) (fields result : List ℕ) (r : Refusal) → namedOf command fields ≡ Refused r → writeCall command fields result ≡ returned (codeOf r) result
 unfolding writeCall
-unnamed command fields result r e = ap (λ (v : Naming). nameTold v result) e
+unnamed command fields result r e = ap (λ (v : Naming). namedReturned v result) e
 
-name-requires : tie.Need-name-requires
-name-requires c κs = search needs
+message-of-requires : tie.Need-message-of-requires
+message-of-requires c κs = search needs
 
 enum-known-r : tie.Need-enum-known-r
 enum-known-r c = search needs
@@ -31,14 +31,14 @@ code-of-requires c κs = search needs
 enum-known-m : tie.Need-enum-known-m
 enum-known-m c = search needs
 
-place-requires : tie.Need-place-requires
-place-requires c κs = search needs
+put-symbols-requires : tie.Need-put-symbols-requires
+put-symbols-requires c κs = search needs
 
 returns : tie.Need-returns
 returns c =
     let a = c .before .before .before .before .before .before .before .args in
     rw (handed (record { sfits = c .code-of .ok }) (c .code-of .ensures))
-    (sym (unnamed (a .command) (now (a .fields)) (now (a .result)) _ (sym (c .before .before .before .before .name .ensures) ∙ c .before .before .r .given .1)))
+    (sym (unnamed (a .command) (now (a .fields)) (now (a .result)) _ (sym (c .before .before .before .before .message-of .ensures) ∙ c .before .before .r .given .1)))
 
 same-length : tie.Need-same-length
 same-length c = search needs
@@ -46,8 +46,8 @@ same-length c = search needs
 returns-2 : tie.Need-returns-2
 unfolding writeCall
 returns-2 c =
-    let r = c .before .before .before .before .before .before .before .name in
-    let p = c .before .before .place in
+    let r = c .before .before .before .before .before .before .before .message-of in
+    let p = c .before .before .put-symbols in
     rw (handed (record { sfits = p .ok }) refl, ← r .ensures, c .before .before .before .before .before .m .given .1)
     (p .ensures)
 
@@ -55,11 +55,11 @@ pub write-spec : {M : Type 1} → statement M
 write-spec =
     tie.close
     (tie.spec
-    name-requires
+    message-of-requires
     enum-known-r
     code-of-requires
     enum-known-m
-    place-requires
+    put-symbols-requires
     returns
     same-length
     returns-2)

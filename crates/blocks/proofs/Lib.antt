@@ -1,6 +1,0 @@
-pub mod Stretch
-pub mod Cuts
-pub mod Pieces
-pub mod Counts
-pub mod Laws
-pub mod Document

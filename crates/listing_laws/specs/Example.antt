@@ -1,0 +1,30 @@
+-- The recording that document 01 prints, and the four lines that it lists as.
+use Prim.Native.Nat.{ℕ, _/_, _%_}
+use mathlib.Core.Path.{_≡_}
+use mathlib.Core.List.{List, [], _∷_, _++_}
+use Rattle.listing.specs.Text.{ascii}
+use Rattle.listing.specs.Walk.{listingOf}
+
+-- a record: the mark, the time and the symbol, low byte first
+abbrev recordBytes : ℕ → ℕ → List ℕ
+recordBytes time symbol =
+    0x53 ∷ 0x54
+    ∷ (time % 256) ∷ (time / 256 % 256) ∷ (time / 65536 % 256) ∷ (time / 16777216)
+    ∷ (symbol % 256) ∷ (symbol / 256) ∷ []
+
+abbrev pub tenSymbols : List ℕ
+tenSymbols =
+    recordBytes 100 0x03E
+    ++ (recordBytes 200 0x120 ++ (recordBytes 211 0x001
+    ++ (recordBytes 300 0x120 ++ (recordBytes 311 0x001 ++ (recordBytes 322 0x03E ++ (recordBytes 333 0x000
+    ++ (recordBytes 400 0x199 ++ (recordBytes 411 0x000 ++ recordBytes 422 0x0FE))))))))
+
+abbrev pub fourLines : List ℕ
+fourLines =
+    ascii "bus listing 1\n"
+    ++ (ascii "333 20 01 3E 00 speed 62\n"
+    ++ (ascii "422 99 00 FE variation 2\n"
+    ++ ascii "handed 2 cancelled 1 stray 1\n"))
+
+abbrev pub ExampleListed : Type 0
+ExampleListed = listingOf tenSymbols ≡ fourLines

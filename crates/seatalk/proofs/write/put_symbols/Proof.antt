@@ -1,0 +1,91 @@
+-- `put_symbols` tests the room that the symbols need; the writer had room for any datagram, so it refused by the verdict alone.
+use borrow.Author.Tests.{le-leb, lt-leb}
+use Prim.Native.Nat.{_*_}
+use native.Mathlib.Omega.{arith}
+use lib.ListN.{length}
+use mir.Syntax.{w32}
+use mir.ValLaws.{toZ-pos}
+use Rattle.from_fields.proofs.Signs.{handed}
+use Rattle.seatalk.proofs.Spelled.{size, returned-refused, spelled}
+use borrow.Author.Needs.{needs}
+use Rattle.seatalk.proofs.write.put_symbols.Statement.{statement}
+use Rattle.seatalk.proofs.write.put_symbols.Tie as tie
+
+slice-aggregate-write : tie.Need-slice-aggregate-write
+slice-aggregate-write c = search needs
+
+write-requires : tie.Need-write-requires
+write-requires c κs = search needs
+
+enum-known-r : tie.Need-enum-known-r
+enum-known-r c = search needs
+
+code-of-requires : tie.Need-code-of-requires
+code-of-requires c κs = search needs
+
+enum-known-n : tie.Need-enum-known-n
+enum-known-n c = search needs
+
+mul-size : tie.Need-mul-size
+mul-size c =
+    let k = spelled (c .before .before .before .before .before .before .before .args .m) _ _ (rw (c .before .n .given .1) at (c .before .before .before .before .write .ensures)) in
+    omega (arith, k .few)
+
+code-of-requires-2 : tie.Need-code-of-requires-2
+code-of-requires-2 c κs = search needs
+
+returns : tie.Need-returns
+returns c =
+    let a = c .before .before .before .before .before .before .before .before .before .args in
+    let k = spelled (a .m) _ _ (rw (c .before .before .before .n .given .1) at (c .before .before .before .before .before .before .write .ensures)) in
+    let n = c .before .before .before .n .given .0 .0 in
+    rw (handed (record { sfits = c .code-of2 .ok }) (c .code-of2 .ensures), k .in-range, size (a .m), ← k .count, lt-leb (2 * n) (length (a .result .now)) (omega arith))
+
+slice-aggregate-store : tie.Need-slice-aggregate-store
+slice-aggregate-store c = search needs
+
+store-requires : tie.Need-store-requires
+store-requires c κs =
+    let a = c .before .before .before .before .before .before .before .before .before .before .args in
+    let k = spelled (a .m) _ _ (rw (c .before .before .before .before .n .given .1) at (c .before .before .before .before .before .before .before .write .ensures)) in
+    (k .held, omega arith)
+
+cast-result : tie.Need-cast-result
+cast-result c =
+    let k = spelled (c .before .before .before .before .before .before .before .before .before .before .before .before .before .args .m) _ _ (rw (c .before .before .before .before .before .before .before .n .given .1) at (c .before .before .before .before .before .before .before .before .before .before .write .ensures)) in
+    omega (arith, k .few)
+
+returns-2 : tie.Need-returns-2
+returns-2 c =
+    let a = c .before .before .before .before .before .before .before .before .args in
+    rw (handed (record { sfits = c .code-of .ok }) (c .code-of .ensures))
+    (returned-refused (a .m) _ _ (a .result .now) (rw (c .before .before .r .given .1) at (c .before .before .before .before .before .write .ensures)))
+
+same-length : tie.Need-same-length
+same-length c = search needs
+
+returns-3 : tie.Need-returns-3
+returns-3 c =
+    let a = c .before .before .before .before .before .before .before .before .before .before .before .before .before .args in
+    let k = spelled (a .m) _ _ (rw (c .before .before .before .before .before .before .before .n .given .1) at (c .before .before .before .before .before .before .before .before .before .before .write .ensures)) in
+    let n = c .before .before .before .before .before .before .before .n .given .0 .0 in
+    rw (k .in-range, size (a .m), ← k .count, le-leb (2 * n) (length (a .result .now)) (omega arith), toZ-pos w32 (2 * n) (omega (arith, k .few)), c .before .before .store .ensures, k .front)
+
+pub put-symbols-spec : {M : Type 1} → statement M
+put-symbols-spec =
+    tie.close
+    (tie.spec
+    slice-aggregate-write
+    write-requires
+    enum-known-r
+    code-of-requires
+    enum-known-n
+    mul-size
+    code-of-requires-2
+    returns
+    slice-aggregate-store
+    store-requires
+    cast-result
+    returns-2
+    same-length
+    returns-3)
