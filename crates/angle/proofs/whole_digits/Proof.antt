@@ -3,15 +3,6 @@ use borrow.Author.Needs.{needs}
 use Rattle.angle.proofs.whole_digits.Statement.{statement}
 use Rattle.angle.proofs.whole_digits.Tie as tie
 
-add-digits-from : tie.Need-add-digits-from
-add-digits-from c = search needs
-
-digits-from-requires : tie.Need-digits-from-requires
-digits-from-requires c κs = search needs
-
-digits-from-requires-2 : tie.Need-digits-from-requires-2
-digits-from-requires-2 c κs = search needs
-
 returns : tie.Need-returns
 returns c = rw (c .before .if1 .taken) (c .digits-from .ensures)
 
@@ -21,4 +12,4 @@ returns-2 c = rw (c .before .if1 .left) (c .digits-from2 .ensures)
 pub whole-digits-spec : {M : Type 1} → statement M
 whole-digits-spec =
     tie.close
-    (tie.spec add-digits-from digits-from-requires digits-from-requires-2 returns returns-2)
+    (tie.spec (λ c. search needs) (λ c κs. search needs) (λ c κs. search needs) returns returns-2)

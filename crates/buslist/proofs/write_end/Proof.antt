@@ -6,19 +6,10 @@ use Rattle.stream.proofs.Fits.{end-fits}
 use Rattle.buslist.proofs.write_end.Statement.{statement}
 use Rattle.buslist.proofs.write_end.Tie as tie
 
-put-last-requires : tie.Need-put-last-requires
-put-last-requires c κs = search needs
-
 put-out-requires : tie.Need-put-out-requires
 put-out-requires c κs =
     let a = c .before .before .before .before .before .before .before .args in
     end-fits (a .progress) (placedFrom (a .base) (cutOff (recordOf (a .rest .now) 0))) (a .out .now) (c .before .before .before .put-last .ensures)
 
-same-length : tie.Need-same-length
-same-length c = search needs
-
-returns : tie.Need-returns
-returns c = search needs
-
 pub write-end-spec : {M : Type 1} → statement M
-write-end-spec = tie.close (tie.spec put-last-requires put-out-requires same-length returns)
+write-end-spec = tie.close (tie.spec (λ c κs. search needs) put-out-requires (λ c. search needs) (λ c. search needs))

@@ -17,23 +17,11 @@ Inv-loop bytes from i₀ i = allZero (drop from bytes) ≡ allZero (drop i bytes
 abbrev μ-loop : tie.MeasureT-loop
 μ-loop bytes from i₀ i = length bytes - i
 
-loop-holds : tie.Need-loop-holds Inv-loop μ-loop
-loop-holds c = search needs
-
-shared-slice-read-if1 : tie.Need-shared-slice-read-if1 Inv-loop μ-loop
-shared-slice-read-if1 c = search needs
-
 returns : tie.Need-returns Inv-loop μ-loop
 returns c =
     let xs = now (c .before .before .before .before .args .bytes) in
     let i = c .before .before .before .loop .i in
     sym (c .before .before .before .loop .inv ∙ rw (drop-cons xs i 0 (c .before .before .loop-test .taken), ne-eqb _ 0 (c .if1 .taken)))
-
-add-i : tie.Need-add-i Inv-loop μ-loop
-add-i c = search needs
-
-loop-less : tie.Need-loop-less Inv-loop μ-loop
-loop-less c = search needs
 
 loop-again : tie.Need-loop-again Inv-loop μ-loop
 loop-again c =
@@ -46,4 +34,6 @@ returns-2 c = sym (c .before .loop .inv ∙ ap allZero (drop-of-length-le (now (
 
 pub zeros-one-by-one-spec : {M : Type 1} → statement M
 zeros-one-by-one-spec =
-    tie.close (tie.spec Inv-loop μ-loop loop-holds shared-slice-read-if1 returns add-i loop-less loop-again returns-2)
+    tie.close
+    (tie.spec Inv-loop μ-loop (λ c. search needs) (λ c. search needs) returns (λ c. search needs) (λ c. search needs)
+    loop-again returns-2)

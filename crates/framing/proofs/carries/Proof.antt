@@ -9,26 +9,8 @@ use Rattle.framing.proofs.Gathering.{carried}
 use Rattle.framing.proofs.carries.Statement.{statement}
 use Rattle.framing.proofs.carries.Tie as tie
 
-shared-slice-read-word-of : tie.Need-shared-slice-read-word-of
-shared-slice-read-word-of c = search needs
-
-add-word-of : tie.Need-add-word-of
-add-word-of c = search needs
-
-shared-slice-read-word-of-2 : tie.Need-shared-slice-read-word-of-2
-shared-slice-read-word-of-2 c = search needs
-
-word-of-requires : tie.Need-word-of-requires
-word-of-requires c κs = search needs
-
 returns : tie.Need-returns
 returns c = λ h. absurd (false≢true h)
-
-add-result : tie.Need-add-result
-add-result c = search needs
-
-shared-slice-read-result : tie.Need-shared-slice-read-result
-shared-slice-read-result c = search needs
 
 returns-2 : tie.Need-returns-2
 returns-2 c =
@@ -40,12 +22,5 @@ returns-2 c =
 pub carries-spec : {M : Type 1} → statement M
 carries-spec =
     tie.close
-    (tie.spec
-    shared-slice-read-word-of
-    add-word-of
-    shared-slice-read-word-of-2
-    word-of-requires
-    returns
-    add-result
-    shared-slice-read-result
-    returns-2)
+    (tie.spec (λ c. search needs) (λ c. search needs) (λ c. search needs) (λ c κs. search needs) returns
+    (λ c. search needs) (λ c. search needs) returns-2)

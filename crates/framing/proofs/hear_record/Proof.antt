@@ -9,33 +9,6 @@ use Rattle.framing.proofs.Walks.{walk-end, walk-refused}
 use Rattle.framing.proofs.hear_record.Statement.{statement}
 use Rattle.framing.proofs.hear_record.Tie as tie
 
-record-at-requires : tie.Need-record-at-requires
-record-at-requires c κs = search needs
-
-enum-told : tie.Need-enum-told
-enum-told c = search needs
-
-stopped-requires : tie.Need-stopped-requires
-stopped-requires c κs = search needs
-
-enum-known-r : tie.Need-enum-known-r
-enum-known-r c = search needs
-
-stopped-requires-2 : tie.Need-stopped-requires-2
-stopped-requires-2 c κs = search needs
-
-enum-known-time : tie.Need-enum-known-time
-enum-known-time c = search needs
-
-hear-requires : tie.Need-hear-requires
-hear-requires c κs = search needs
-
-advance-requires : tie.Need-advance-requires
-advance-requires c κs = search needs
-
-cast-t14 : tie.Need-cast-t14
-cast-t14 c = search needs
-
 returns : tie.Need-returns
 returns c =
     let start = c .before .before .before .before .before in
@@ -63,16 +36,6 @@ returns-3 c =
 pub hear-record-spec : {M : Type 1} → statement M
 hear-record-spec =
     tie.close
-    (tie.spec
-    record-at-requires
-    enum-told
-    stopped-requires
-    enum-known-r
-    stopped-requires-2
-    enum-known-time
-    hear-requires
-    advance-requires
-    cast-t14
-    returns
-    returns-2
-    returns-3)
+    (tie.spec (λ c κs. search needs) (λ c. search needs) (λ c κs. search needs) (λ c. search needs)
+    (λ c κs. search needs) (λ c. search needs) (λ c κs. search needs) (λ c κs. search needs) (λ c. search needs) returns
+    returns-2 returns-3)

@@ -26,22 +26,10 @@ inside n k h = go (eqb k 0)
     go true = omega arith
     go false = omega arith
 
-reach-requires : tie.Need-reach-requires
-reach-requires c κs = search needs
-
-sub-of-kind : tie.Need-sub-of-kind
-sub-of-kind c = search needs
-
-part-of-kind-start : tie.Need-part-of-kind-start
-part-of-kind-start c = search needs
-
 part-of-kind-end : tie.Need-part-of-kind-end
 part-of-kind-end c =
     let a = c .before .before .args in
     omega (arith, c .reach .ensures, inside (length (a .fields .now)) (a .k) (c .before .before .pre))
-
-of-kind-requires : tie.Need-of-kind-requires
-of-kind-requires c κs = search needs
 
 returns : tie.Need-returns
 returns c =
@@ -49,18 +37,6 @@ returns c =
     let fs = a .fields .now in
     let whole : take (c .before .before .before .reach .result - 0) fs ≡ fs = take-all (c .before .before .before .reach .result - 0) fs (omega (arith, rw (c .if1 .taken) at (c .before .before .before .reach .ensures))) in
     rw (c .if1 .taken) (ap Named (rw whole at (c .before .of-kind .ensures)))
-
-range-of-requires : tie.Need-range-of-requires
-range-of-requires c κs = search needs
-
-enum-told : tie.Need-enum-told
-enum-told c = search needs
-
-out-of-range-requires : tie.Need-out-of-range-requires
-out-of-range-requires c κs = search needs
-
-enum-known-r : tie.Need-enum-known-r
-enum-known-r c = search needs
 
 returns-2 : tie.Need-returns-2
 returns-2 c =
@@ -83,16 +59,5 @@ returns-3 c =
 pub flag-judged-spec : {M : Type 1} → statement M
 flag-judged-spec =
     tie.close
-    (tie.spec
-    reach-requires
-    sub-of-kind
-    part-of-kind-start
-    part-of-kind-end
-    of-kind-requires
-    returns
-    range-of-requires
-    enum-told
-    out-of-range-requires
-    enum-known-r
-    returns-2
-    returns-3)
+    (tie.spec (λ c κs. search needs) (λ c. search needs) (λ c. search needs) part-of-kind-end (λ c κs. search needs)
+    returns (λ c κs. search needs) (λ c. search needs) (λ c κs. search needs) (λ c. search needs) returns-2 returns-3)

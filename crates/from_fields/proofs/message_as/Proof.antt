@@ -14,24 +14,6 @@ use borrow.Author.Needs.{needs}
 use Rattle.from_fields.proofs.message_as.Statement.{statement}
 use Rattle.from_fields.proofs.message_as.Tie as tie
 
-enum-told : tie.Need-enum-told
-enum-told c = search needs
-
-enum-known-found : tie.Need-enum-known-found
-enum-known-found c = search needs
-
-count-of-requires : tie.Need-count-of-requires
-count-of-requires c κs = search needs
-
-cast-if1 : tie.Need-cast-if1
-cast-if1 c = search needs
-
-mul-if1 : tie.Need-mul-if1
-mul-if1 c = search needs
-
-bad-flag-requires : tie.Need-bad-flag-requires
-bad-flag-requires c κs = search needs
-
 flag-judged-requires : tie.Need-flag-judged-requires
 flag-judged-requires c κs =
     let fs = c .before .before .before .before .before .before .before .args .fields .now in
@@ -58,14 +40,5 @@ returns-3 c =
 pub message-as-spec : {M : Type 1} → statement M
 message-as-spec =
     tie.close
-    (tie.spec
-    enum-told
-    enum-known-found
-    count-of-requires
-    cast-if1
-    mul-if1
-    bad-flag-requires
-    flag-judged-requires
-    returns
-    returns-2
-    returns-3)
+    (tie.spec (λ c. search needs) (λ c. search needs) (λ c κs. search needs) (λ c. search needs) (λ c. search needs)
+    (λ c κs. search needs) flag-judged-requires returns returns-2 returns-3)

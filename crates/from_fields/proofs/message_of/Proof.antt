@@ -12,18 +12,11 @@ returns : tie.Need-returns
 unfolding namedOf
 returns c = rw (unknown-above (c .before .before .args .command) (c .if1 .taken))
 
-cast-find : tie.Need-cast-find
-cast-find c = search needs
-
-find-requires : tie.Need-find-requires
-find-requires c κs = search needs
-
-message-as-requires : tie.Need-message-as-requires
-message-as-requires c κs = search needs
-
 returns-2 : tie.Need-returns-2
 unfolding namedOf
 returns-2 c = c .message-as .ensures ∙ ap (λ (l : Lookup). namedAs l (now (c .before .before .before .before .args .fields))) (c .before .find .ensures)
 
 pub message-of-spec : {M : Type 1} → statement M
-message-of-spec = tie.close (tie.spec returns cast-find find-requires message-as-requires returns-2)
+message-of-spec =
+    tie.close
+    (tie.spec returns (λ c. search needs) (λ c κs. search needs) (λ c κs. search needs) returns-2)

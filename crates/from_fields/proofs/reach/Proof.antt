@@ -4,12 +4,6 @@ use borrow.Author.Needs.{needs}
 use Rattle.from_fields.proofs.reach.Statement.{statement}
 use Rattle.from_fields.proofs.reach.Tie as tie
 
-sub-result : tie.Need-sub-result
-sub-result c = search needs
-
-mul-result : tie.Need-mul-result
-mul-result c = search needs
-
 returns : tie.Need-returns
 returns c = rw (c .if1 .taken)
 
@@ -17,4 +11,4 @@ returns-2 : tie.Need-returns-2
 returns-2 c = rw (ne-eqb (c .before .args .k) 0 (c .if1 .left))
 
 pub reach-spec : {M : Type 1} → statement M
-reach-spec = tie.close (tie.spec sub-result mul-result returns returns-2)
+reach-spec = tie.close (tie.spec (λ c. search needs) (λ c. search needs) returns returns-2)

@@ -9,51 +9,6 @@ use Rattle.key_sender.proofs.Spelled.{key-refused, key-offered}
 use Rattle.key_sender.proofs.send_key.Statement.{statement}
 use Rattle.key_sender.proofs.send_key.Tie as tie
 
-slice-aggregate-write : tie.Need-slice-aggregate-write
-slice-aggregate-write c = search needs
-
-write-requires : tie.Need-write-requires
-write-requires c κs = search needs
-
-enum-known-r : tie.Need-enum-known-r
-enum-known-r c = search needs
-
-refused-offer-requires : tie.Need-refused-offer-requires
-refused-offer-requires c κs = search needs
-
-enum-told : tie.Need-enum-told
-enum-told c = search needs
-
-array-read-t15 : tie.Need-array-read-t15
-array-read-t15 c = search needs
-
-cast-t17 : tie.Need-cast-t17
-cast-t17 c = search needs
-
-array-read-t20 : tie.Need-array-read-t20
-array-read-t20 c = search needs
-
-cast-t22 : tie.Need-cast-t22
-cast-t22 c = search needs
-
-array-read-t25 : tie.Need-array-read-t25
-array-read-t25 c = search needs
-
-cast-t27 : tie.Need-cast-t27
-cast-t27 c = search needs
-
-array-read-t30 : tie.Need-array-read-t30
-array-read-t30 c = search needs
-
-cast-t32 : tie.Need-cast-t32
-cast-t32 c = search needs
-
-slice-aggregate-offer : tie.Need-slice-aggregate-offer
-slice-aggregate-offer c = search needs
-
-offer-requires : tie.Need-offer-requires
-offer-requires c κs = search needs
-
 returns : tie.Need-returns
 unfolding keyOf writeOf
 returns c =
@@ -73,21 +28,7 @@ returns-2 c =
 pub send-key-spec : {M : Type 1} → statement M
 send-key-spec =
     tie.close
-    (tie.spec
-    slice-aggregate-write
-    write-requires
-    enum-known-r
-    refused-offer-requires
-    enum-told
-    array-read-t15
-    cast-t17
-    array-read-t20
-    cast-t22
-    array-read-t25
-    cast-t27
-    array-read-t30
-    cast-t32
-    slice-aggregate-offer
-    offer-requires
-    returns
+    (tie.spec (λ c. search needs) (λ c κs. search needs) (λ c. search needs) (λ c κs. search needs) (λ c. search needs)
+    (λ c. search needs) (λ c. search needs) (λ c. search needs) (λ c. search needs) (λ c. search needs)
+    (λ c. search needs) (λ c. search needs) (λ c. search needs) (λ c. search needs) (λ c κs. search needs) returns
     returns-2)

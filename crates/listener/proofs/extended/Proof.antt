@@ -54,17 +54,8 @@ module _ (l : Listener) (b : ℕ) (k : Held l) where
 known : (c : tie.Start) → Held (c .args .t1)
 known c = held-by (c .args .t1) (search needs) (c .pre .0)
 
-cast-at : tie.Need-cast-at
-cast-at c = search needs
-
 add-if1 : tie.Need-add-if1
 add-if1 c = omega (arith, known c)
-
-element-copy-out-if1 : tie.Need-element-copy-out-if1
-element-copy-out-if1 c = search needs
-
-add-if1-2 : tie.Need-add-if1-2
-add-if1-2 c = search needs
 
 handed-out-requires : tie.Need-handed-out-requires
 handed-out-requires c κs = omega (arith, known (c .before .before))
@@ -80,9 +71,6 @@ element-write-next c = omega (arith, known (c .before .before))
 add-next : tie.Need-add-next
 add-next c = omega (arith, known (c .before .before))
 
-without-bytes-requires : tie.Need-without-bytes-requires
-without-bytes-requires c κs = search needs
-
 returns-2 : tie.Need-returns-2
 returns-2 c =
     let w = c .before .before .before in
@@ -91,14 +79,5 @@ returns-2 c =
 pub extended-spec : {M : Type 1} → statement M
 extended-spec =
     tie.close
-    (tie.spec
-    cast-at
-    add-if1
-    element-copy-out-if1
-    add-if1-2
-    handed-out-requires
-    returns
-    element-write-next
-    add-next
-    without-bytes-requires
-    returns-2)
+    (tie.spec (λ c. search needs) add-if1 (λ c. search needs) (λ c. search needs) handed-out-requires returns
+    element-write-next add-next (λ c κs. search needs) returns-2)

@@ -24,38 +24,14 @@ abbrev μ-loop : tie.MeasureT-loop
 copied : (xs : List ℕ) (i : ℕ) → length xs ≡ 17 → i < 17 → set (padTo 18 (take i xs)) i (getD xs i 0) ≡ padTo 18 (take (i + 1) xs)
 copied xs i long h = rw (add-one, take-suc xs i 0 (omega arith)) (set-pad 18 (take i xs) i (getD xs i 0) (length-take-le i xs (omega arith)) (omega arith))
 
-cast-at : tie.Need-cast-at Inv-loop μ-loop
-cast-at c = search needs
-
 loop-holds : tie.Need-loop-holds Inv-loop μ-loop
 unfolding padTo
 loop-holds c = search needs
-
-element-copy-out-out : tie.Need-element-copy-out-out Inv-loop μ-loop
-element-copy-out-out c = search needs
-
-array-write-out : tie.Need-array-write-out Inv-loop μ-loop
-array-write-out c = search needs
-
-add-i : tie.Need-add-i Inv-loop μ-loop
-add-i c = search needs
-
-loop-less : tie.Need-loop-less Inv-loop μ-loop
-loop-less c = search needs
 
 loop-again : tie.Need-loop-again Inv-loop μ-loop
 loop-again c =
     let w = c .before .before in
     (search needs, rw (w .loop .inv .1) (copied (w .before .args .t1 .bytes) (w .loop .i) (search needs) (omega arith)))
-
-array-write-out-2 : tie.Need-array-write-out-2 Inv-loop μ-loop
-array-write-out-2 c = search needs
-
-empty-listener-requires : tie.Need-empty-listener-requires Inv-loop μ-loop
-empty-listener-requires c κs = search needs
-
-add-t19 : tie.Need-add-t19 Inv-loop μ-loop
-add-t19 c = search needs
 
 returns : tie.Need-returns Inv-loop μ-loop
 returns c =
@@ -73,17 +49,5 @@ returns c =
 pub handed-out-spec : {M : Type 1} → statement M
 handed-out-spec =
     tie.close
-    (tie.spec
-    Inv-loop
-    μ-loop
-    cast-at
-    loop-holds
-    element-copy-out-out
-    array-write-out
-    add-i
-    loop-less
-    loop-again
-    array-write-out-2
-    empty-listener-requires
-    add-t19
-    returns)
+    (tie.spec Inv-loop μ-loop (λ c. search needs) loop-holds (λ c. search needs) (λ c. search needs) (λ c. search needs)
+    (λ c. search needs) loop-again (λ c. search needs) (λ c κs. search needs) (λ c. search needs) returns)

@@ -34,19 +34,10 @@ others : (c : tie.Else3) → let a = c .before .before .before .before .args in 
 unfolding step
 others c = steps (c .before) ∙ rw (lt-leb 256 (c .before .before .before .before .args .symbol) (omega arith))
 
-refused-requires : tie.Need-refused-requires
-refused-requires c κs = search needs
-
 returns : tie.Need-returns
 returns c =
     let a = c .before .before .args in
     rw (refused-above (a .l) (a .symbol) (omega arith)) (c .refused .ensures)
-
-is-sound-requires : tie.Need-is-sound-requires
-is-sound-requires c κs = search needs
-
-refused-requires-2 : tie.Need-refused-requires-2
-refused-requires-2 c κs = search needs
 
 returns-2 : tie.Need-returns-2
 returns-2 c =
@@ -54,29 +45,17 @@ returns-2 c =
     let unsound : sound (a .l) ≡ false = sym (c .before .before .is-sound .ensures) ∙ not-true _ (c .before .if2 .taken) in
     rw (refused-unsound (a .l) (a .symbol) (omega arith) unsound) (c .refused2 .ensures)
 
-cast-opened : tie.Need-cast-opened
-cast-opened c = search needs
-
-opened-requires : tie.Need-opened-requires
-opened-requires c κs = search needs
-
 returns-3 : tie.Need-returns-3
 unfolding step
 returns-3 c =
     let w = c .before .before in
     c .opened .ensures ∙ sym (steps w ∙ rw (le-leb 256 (w .before .before .before .args .symbol) (omega arith)))
 
-without-bytes-requires : tie.Need-without-bytes-requires
-without-bytes-requires c κs = search needs
-
 returns-4 : tie.Need-returns-4
 returns-4 c =
     let w = c .before .before .before in
     let a = w .before .before .before .before .args in
     c .without-bytes .ensures ∙ strays (a .l) (a .symbol) (search needs) (past-sound (w .before)) (omega arith) ∙ sym (others w)
-
-cast-extended : tie.Need-cast-extended
-cast-extended c = search needs
 
 extended-requires : tie.Need-extended-requires
 extended-requires c κs = (past-sound (c .before .before .before), search needs)
@@ -87,17 +66,5 @@ returns-5 c = c .extended .ensures ∙ sym (others (c .before .before .before))
 pub hear-spec : {M : Type 1} → statement M
 hear-spec =
     tie.close
-    (tie.spec
-    refused-requires
-    returns
-    is-sound-requires
-    refused-requires-2
-    returns-2
-    cast-opened
-    opened-requires
-    returns-3
-    without-bytes-requires
-    returns-4
-    cast-extended
-    extended-requires
-    returns-5)
+    (tie.spec (λ c κs. search needs) returns (λ c κs. search needs) (λ c κs. search needs) returns-2 (λ c. search needs)
+    (λ c κs. search needs) returns-3 (λ c κs. search needs) returns-4 (λ c. search needs) extended-requires returns-5)

@@ -5,9 +5,6 @@ use Rattle.listener.specs.State.{empty}
 use Rattle.listener.proofs.is_empty.Statement.{statement}
 use Rattle.listener.proofs.is_empty.Tie as tie
 
-is-sound-requires : tie.Need-is-sound-requires
-is-sound-requires c κs = search needs
-
 returns : tie.Need-returns
 unfolding empty
 returns c = rw (sym (c .before .before .is-sound .ensures) ∙ c .before .if1 .taken)
@@ -17,4 +14,4 @@ unfolding empty
 returns-2 c = rw (sym (c .before .is-sound .ensures) ∙ c .if1 .left)
 
 pub is-empty-spec : {M : Type 1} → statement M
-is-empty-spec = tie.close (tie.spec is-sound-requires returns returns-2)
+is-empty-spec = tie.close (tie.spec (λ c κs. search needs) returns returns-2)

@@ -9,22 +9,10 @@ use Rattle.listener.proofs.Sound.{sound-is}
 use Rattle.listener.proofs.is_sound.Statement.{statement}
 use Rattle.listener.proofs.is_sound.Tie as tie
 
-element-copy-out-if1 : tie.Need-element-copy-out-if1
-element-copy-out-if1 c = search needs
-
-add-if1 : tie.Need-add-if1
-add-if1 c = search needs
-
 returns : tie.Need-returns
 returns c =
     let l = c .before .before .args .t1 in
     rw (sound-is l, le-ltb (l .held) (declared (getD (l .bytes) 1 0)) (omega arith))
-
-cast-zeros-from : tie.Need-cast-zeros-from
-cast-zeros-from c = search needs
-
-zeros-from-requires : tie.Need-zeros-from-requires
-zeros-from-requires c κs = search needs
 
 returns-2 : tie.Need-returns-2
 returns-2 c =
@@ -34,4 +22,4 @@ returns-2 c =
 pub is-sound-spec : {M : Type 1} → statement M
 is-sound-spec =
     tie.close
-    (tie.spec element-copy-out-if1 add-if1 returns cast-zeros-from zeros-from-requires returns-2)
+    (tie.spec (λ c. search needs) (λ c. search needs) returns (λ c. search needs) (λ c κs. search needs) returns-2)

@@ -20,18 +20,6 @@ cancels (x ∷ xs) b h = refl
 alone : (s : Listener) (b : ℕ) → s ≡ emptyListener → _≡_ {A = Listener} (record { bytes = set (s .bytes) 0 b; held = 1 }) (holding (b ∷ []))
 alone s b e = rw (e, set-pad 17 [] 0 b refl (omega arith))
 
-empty-listener-requires : tie.Need-empty-listener-requires
-empty-listener-requires c κs = search needs
-
-element-write-next : tie.Need-element-write-next
-element-write-next c = search needs
-
-without-bytes-requires : tie.Need-without-bytes-requires
-without-bytes-requires c κs = search needs
-
-without-bytes-requires-2 : tie.Need-without-bytes-requires-2
-without-bytes-requires-2 c κs = search needs
-
 returns : tie.Need-returns
 returns c =
     let w = c .before .before .before in
@@ -50,10 +38,4 @@ returns-2 c =
 pub opened-spec : {M : Type 1} → statement M
 opened-spec =
     tie.close
-    (tie.spec
-    empty-listener-requires
-    element-write-next
-    without-bytes-requires
-    without-bytes-requires-2
-    returns
-    returns-2)
+    (tie.spec (λ c κs. search needs) (λ c. search needs) (λ c κs. search needs) (λ c κs. search needs) returns returns-2)

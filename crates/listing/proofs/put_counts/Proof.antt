@@ -6,22 +6,13 @@ use Rattle.listing.proofs.Decimal.{decimal-most}
 use Rattle.listing.proofs.put_counts.Statement.{statement}
 use Rattle.listing.proofs.put_counts.Tie as tie
 
-slice-aggregate-put-labelled : tie.Need-slice-aggregate-put-labelled
-slice-aggregate-put-labelled c = search needs
-
 put-labelled-requires : tie.Need-put-labelled-requires
 put-labelled-requires c κs = (c .before .before .before .pre .0, omega arith)
-
-slice-aggregate-put-labelled-2 : tie.Need-slice-aggregate-put-labelled-2
-slice-aggregate-put-labelled-2 c = search needs
 
 put-labelled-requires-2 : tie.Need-put-labelled-requires-2
 put-labelled-requires-2 c κs =
     let p = c .before .before .before .before .put-labelled .ensures in
     (c .before .before .before .before .before .before .before .before .pre .0, omega (arith, p .moved, put-length p, decimal-most (c .before .before .before .before .before .before .before .before .args .progress .handed)))
-
-slice-aggregate-put-labelled-3 : tie.Need-slice-aggregate-put-labelled-3
-slice-aggregate-put-labelled-3 c = search needs
 
 put-labelled-requires-3 : tie.Need-put-labelled-requires-3
 put-labelled-requires-3 c κs =
@@ -50,14 +41,5 @@ same-length c = put-length (returns c)
 pub put-counts-spec : {M : Type 1} → statement M
 put-counts-spec =
     tie.close
-    (tie.spec
-    slice-aggregate-put-labelled
-    put-labelled-requires
-    slice-aggregate-put-labelled-2
-    put-labelled-requires-2
-    slice-aggregate-put-labelled-3
-    put-labelled-requires-3
-    slice-write-out
-    add-result
-    same-length
-    returns)
+    (tie.spec (λ c. search needs) put-labelled-requires (λ c. search needs) put-labelled-requires-2 (λ c. search needs)
+    put-labelled-requires-3 slice-write-out add-result same-length returns)

@@ -8,21 +8,6 @@ use Rattle.listing.proofs.Decimal.{decimal-most, decimal-one, decimal-t
 use Rattle.listing.proofs.put_decimal.Statement.{statement}
 use Rattle.listing.proofs.put_decimal.Tie as tie
 
-cast-out : tie.Need-cast-out
-cast-out c = search needs
-
-add-out : tie.Need-add-out
-add-out c = search needs
-
-slice-write-out : tie.Need-slice-write-out
-slice-write-out c = search needs
-
-add-result : tie.Need-add-result
-add-result c = search needs
-
-same-length : tie.Need-same-length
-same-length c = search needs
-
 returns : tie.Need-returns
 returns c =
     let text = decimal-one (c .before .before .args .n) (c .if1 .taken) in
@@ -30,9 +15,6 @@ returns c =
 
 store-pair-requires : tie.Need-store-pair-requires
 store-pair-requires c κs = (c .before .before .before .before .pre .0, c .before .if2 .taken, omega arith)
-
-add-result-2 : tie.Need-add-result-2
-add-result-2 c = search needs
 
 same-length-2 : tie.Need-same-length-2
 same-length-2 c = c .before .before .store-pair .kept .1 .0
@@ -42,23 +24,8 @@ returns-2 c =
     let text = decimal-two (c .before .before .before .before .before .before .before .args .n) (c .before .before .before .before .before .if1 .left) (c .before .before .before .before .if2 .taken) in
     record { stored = c .before .before .store-pair .ensures ∙ rw text; moved = rw text (omega arith) }
 
-cast-out-2 : tie.Need-cast-out-2
-cast-out-2 c = search needs
-
-add-out-2 : tie.Need-add-out-2
-add-out-2 c = search needs
-
-slice-write-out-2 : tie.Need-slice-write-out-2
-slice-write-out-2 c = search needs
-
-add-store-pair : tie.Need-add-store-pair
-add-store-pair c = search needs
-
 store-pair-requires-2 : tie.Need-store-pair-requires-2
 store-pair-requires-2 c κs = (c .before .before .before .before .before .pre .0, omega arith, simp length-set (omega arith))
-
-add-result-3 : tie.Need-add-result-3
-add-result-3 c = search needs
 
 same-length-3 : tie.Need-same-length-3
 same-length-3 c = simp length-set at (c .before .before .store-pair2 .kept .1 .0)
@@ -67,9 +34,6 @@ returns-3 : tie.Need-returns-3
 returns-3 c =
     let text = decimal-three (c .before .before .before .before .before .before .before .before .args .n) (c .before .before .before .before .before .if2 .left) (c .before .before .before .before .if3 .taken) in
     record { stored = c .before .before .store-pair2 .ensures ∙ rw (text, add-one); moved = rw text (omega arith) }
-
-digit-count-requires : tie.Need-digit-count-requires
-digit-count-requires c κs = search needs
 
 add-end : tie.Need-add-end
 add-end c = omega (arith, c .digit-count .ensures, decimal-most (c .before .before .before .before .before .args .n))
@@ -89,27 +53,7 @@ returns-4 c =
 pub put-decimal-spec : {M : Type 1} → statement M
 put-decimal-spec =
     tie.close
-    (tie.spec
-    cast-out
-    add-out
-    slice-write-out
-    add-result
-    same-length
-    returns
-    store-pair-requires
-    add-result-2
-    same-length-2
-    returns-2
-    cast-out-2
-    add-out-2
-    slice-write-out-2
-    add-store-pair
-    store-pair-requires-2
-    add-result-3
-    same-length-3
-    returns-3
-    digit-count-requires
-    add-end
-    store-digits-requires
-    same-length-4
-    returns-4)
+    (tie.spec (λ c. search needs) (λ c. search needs) (λ c. search needs) (λ c. search needs) (λ c. search needs)
+    returns store-pair-requires (λ c. search needs) same-length-2 returns-2 (λ c. search needs) (λ c. search needs)
+    (λ c. search needs) (λ c. search needs) store-pair-requires-2 (λ c. search needs) same-length-3 returns-3
+    (λ c κs. search needs) add-end store-digits-requires same-length-4 returns-4)

@@ -10,9 +10,6 @@ use Rattle.listing.proofs.put_end.Tie as tie
 returns : tie.Need-returns
 returns c = rw (lt-leb _ _ (c .if1 .taken))
 
-digit-pairs-requires : tie.Need-digit-pairs-requires
-digit-pairs-requires c κs = search needs
-
 put-stop-requires : tie.Need-put-stop-requires
 put-stop-requires c κs = (c .before .before .digit-pairs .ensures, omega arith)
 
@@ -21,9 +18,6 @@ put-counts-requires c κs =
     let p = c .before .before .before .before .put-stop .ensures in
     (c .before .before .before .before .before .before .before .digit-pairs .ensures, omega (arith, p .moved, put-length p, stop-most (c .before .before .before .before .before .before .before .before .before .before .args .stop)))
 
-same-length : tie.Need-same-length
-same-length c = search needs
-
 returns-2 : tie.Need-returns-2
 returns-2 c =
     rw (le-leb _ _ (c .before .before .before .before .before .before .before .before .before .before .before .if1 .left)) (put-placed (put-then (c .before .before .before .before .before .before .before .put-stop .ensures) (c .before .before .put-counts .ensures)))
@@ -31,10 +25,4 @@ returns-2 c =
 pub put-end-spec : {M : Type 1} → statement M
 put-end-spec =
     tie.close
-    (tie.spec
-    returns
-    digit-pairs-requires
-    put-stop-requires
-    put-counts-requires
-    same-length
-    returns-2)
+    (tie.spec returns (λ c κs. search needs) put-stop-requires put-counts-requires (λ c. search needs) returns-2)

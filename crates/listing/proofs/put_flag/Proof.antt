@@ -15,37 +15,16 @@ use Rattle.listing.proofs.put_flag.Tie as tie
 flag-text : (on to : Bool) (d : _) → on ≡ to → decimal (num to) ≡ d ∷ [] → decimal (num on) ≡ d ∷ []
 flag-text on to d e t = ap (λ (b : Bool). decimal (num b)) e ∙ t
 
-slice-write-out : tie.Need-slice-write-out
-slice-write-out c = search needs
-
-add-out : tie.Need-add-out
-add-out c = search needs
-
 slice-write-out-2 : tie.Need-slice-write-out-2
 slice-write-out-2 c = simp length-set (omega arith)
-
-add-result : tie.Need-add-result
-add-result c = search needs
-
-same-length : tie.Need-same-length
-same-length c = search needs
 
 returns : tie.Need-returns
 returns c =
     let text = flag-text (c .before .args .on) true 49 (c .if1 .taken) (decimal-one 1 (omega arith)) in
     record { stored = rw (text, add-one); moved = rw text (omega arith) }
 
-add-out-2 : tie.Need-add-out-2
-add-out-2 c = search needs
-
 slice-write-out-3 : tie.Need-slice-write-out-3
 slice-write-out-3 c = simp length-set (omega arith)
-
-add-result-2 : tie.Need-add-result-2
-add-result-2 c = search needs
-
-same-length-2 : tie.Need-same-length-2
-same-length-2 c = search needs
 
 returns-2 : tie.Need-returns-2
 returns-2 c =
@@ -55,15 +34,5 @@ returns-2 c =
 pub put-flag-spec : {M : Type 1} → statement M
 put-flag-spec =
     tie.close
-    (tie.spec
-    slice-write-out
-    add-out
-    slice-write-out-2
-    add-result
-    same-length
-    returns
-    add-out-2
-    slice-write-out-3
-    add-result-2
-    same-length-2
-    returns-2)
+    (tie.spec (λ c. search needs) (λ c. search needs) slice-write-out-2 (λ c. search needs) (λ c. search needs) returns
+    (λ c. search needs) slice-write-out-3 (λ c. search needs) (λ c. search needs) returns-2)

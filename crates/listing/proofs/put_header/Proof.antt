@@ -9,19 +9,9 @@ use Rattle.listing.proofs.put_header.Tie as tie
 returns : tie.Need-returns
 returns c = rw (lt-leb _ _ (c .if1 .taken))
 
-slice-aggregate-put-bytes : tie.Need-slice-aggregate-put-bytes
-slice-aggregate-put-bytes c = search needs
-
-put-bytes-requires : tie.Need-put-bytes-requires
-put-bytes-requires c κs = search needs
-
-same-length : tie.Need-same-length
-same-length c = search needs
-
 returns-2 : tie.Need-returns-2
 unfolding decimal
 returns-2 c = rw (le-leb _ _ (c .before .before .before .before .before .if1 .left)) (put-placed (c .before .before .put-bytes .ensures))
 
 pub put-header-spec : {M : Type 1} → statement M
-put-header-spec =
-    tie.close (tie.spec returns slice-aggregate-put-bytes put-bytes-requires same-length returns-2)
+put-header-spec = tie.close (tie.spec returns (λ c. search needs) (λ c κs. search needs) (λ c. search needs) returns-2)

@@ -7,35 +7,11 @@ use borrow.Author.Needs.{needs}
 use Rattle.listing.proofs.put_hex_byte.Statement.{statement}
 use Rattle.listing.proofs.put_hex_byte.Tie as tie
 
-mul-i : tie.Need-mul-i
-mul-i c = search needs
-
-element-copy-out-high : tie.Need-element-copy-out-high
-element-copy-out-high c = search needs
-
-add-low : tie.Need-add-low
-add-low c = search needs
-
-element-copy-out-low : tie.Need-element-copy-out-low
-element-copy-out-low c = search needs
-
-slice-write-out : tie.Need-slice-write-out
-slice-write-out c = search needs
-
-add-out : tie.Need-add-out
-add-out c = search needs
-
 slice-write-out-2 : tie.Need-slice-write-out-2
 slice-write-out-2 c = simp length-set (omega arith)
 
-add-out-2 : tie.Need-add-out-2
-add-out-2 c = search needs
-
 slice-write-out-3 : tie.Need-slice-write-out-3
 slice-write-out-3 c = simp length-set (omega arith)
-
-add-result : tie.Need-add-result
-add-result c = search needs
 
 same-length : tie.Need-same-length
 same-length c = simp length-set
@@ -49,16 +25,5 @@ returns c =
 pub put-hex-byte-spec : {M : Type 1} → statement M
 put-hex-byte-spec =
     tie.close
-    (tie.spec
-    mul-i
-    element-copy-out-high
-    add-low
-    element-copy-out-low
-    slice-write-out
-    add-out
-    slice-write-out-2
-    add-out-2
-    slice-write-out-3
-    add-result
-    same-length
-    returns)
+    (tie.spec (λ c. search needs) (λ c. search needs) (λ c. search needs) (λ c. search needs) (λ c. search needs)
+    (λ c. search needs) slice-write-out-2 (λ c. search needs) slice-write-out-3 (λ c. search needs) same-length returns)

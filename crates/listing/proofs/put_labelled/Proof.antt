@@ -5,20 +5,13 @@ use Rattle.listing.proofs.Put.{put-then, put-length}
 use Rattle.listing.proofs.put_labelled.Statement.{statement}
 use Rattle.listing.proofs.put_labelled.Tie as tie
 
-put-bytes-requires : tie.Need-put-bytes-requires
-put-bytes-requires c κs = omega arith
-
 put-decimal-requires : tie.Need-put-decimal-requires
 put-decimal-requires c κs =
     let p = c .before .before .before .put-bytes .ensures in (c .before .before .before .before .before .before .before .pre .0, omega (arith, p .moved, put-length p))
-
-same-length : tie.Need-same-length
-same-length c = search needs
 
 returns : tie.Need-returns
 returns c =
     put-then (c .before .before .before .before .before .before .put-bytes .ensures) (c .before .before .put-decimal .ensures)
 
 pub put-labelled-spec : {M : Type 1} → statement M
-put-labelled-spec =
-    tie.close (tie.spec put-bytes-requires put-decimal-requires same-length returns)
+put-labelled-spec = tie.close (tie.spec (λ c κs. omega arith) put-decimal-requires (λ c. search needs) returns)

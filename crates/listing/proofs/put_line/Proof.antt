@@ -10,9 +10,6 @@ use Rattle.listing.proofs.Lines.{content-most}
 use Rattle.listing.proofs.put_line.Statement.{statement}
 use Rattle.listing.proofs.put_line.Tie as tie
 
-put-stamp-requires : tie.Need-put-stamp-requires
-put-stamp-requires c κs = search needs
-
 put-hex-requires : tie.Need-put-hex-requires
 put-hex-requires c κs =
     let start = c .before .before .before .before .before .before .before .before in
@@ -50,4 +47,5 @@ same-length c = put-length (returns c)
 pub put-line-spec : {M : Type 1} → statement M
 put-line-spec =
     tie.close
-    (tie.spec put-stamp-requires put-hex-requires put-content-requires slice-write-out add-result same-length returns)
+    (tie.spec (λ c κs. search needs) put-hex-requires put-content-requires slice-write-out add-result same-length
+    returns)

@@ -6,12 +6,6 @@ use Rattle.listing.proofs.Put.{put-then, put-one, put-nothing}
 use Rattle.listing.proofs.put_number.Statement.{statement}
 use Rattle.listing.proofs.put_number.Tie as tie
 
-slice-write-out : tie.Need-slice-write-out
-slice-write-out c = search needs
-
-add-put-decimal : tie.Need-add-put-decimal
-add-put-decimal c = search needs
-
 put-decimal-requires : tie.Need-put-decimal-requires
 put-decimal-requires c κs = (c .before .before .pre .0, simp length-set (omega arith))
 
@@ -22,5 +16,4 @@ returns : tie.Need-returns
 returns c = put-then (put-one _ _ 32) (put-then (c .before .before .put-decimal .ensures) (put-nothing _ _))
 
 pub put-number-spec : {M : Type 1} → statement M
-put-number-spec =
-    tie.close (tie.spec slice-write-out add-put-decimal put-decimal-requires same-length returns)
+put-number-spec = tie.close (tie.spec (λ c. search needs) (λ c. search needs) put-decimal-requires same-length returns)

@@ -12,17 +12,8 @@ use Rattle.listing.proofs.Sign.{from-zero, distance, text-below, text-f
 use Rattle.listing.proofs.put_signed.Statement.{statement}
 use Rattle.listing.proofs.put_signed.Tie as tie
 
-slice-write-out : tie.Need-slice-write-out
-slice-write-out c = search needs
-
-add-out : tie.Need-add-out
-add-out c = search needs
-
 slice-write-out-2 : tie.Need-slice-write-out-2
 slice-write-out-2 c = simp length-set (omega arith)
-
-add-put-decimal : tie.Need-add-put-decimal
-add-put-decimal c = search needs
 
 sub-put-decimal : tie.Need-sub-put-decimal
 sub-put-decimal c =
@@ -46,9 +37,6 @@ add-put-decimal-2 c =
 
 put-decimal-requires : tie.Need-put-decimal-requires
 put-decimal-requires c κs = (c .before .before .before .pre .0, simp length-set (omega arith))
-
-add-put-decimal-3 : tie.Need-add-put-decimal-3
-add-put-decimal-3 c = search needs
 
 cast-put-decimal-2 : tie.Need-cast-put-decimal-2
 cast-put-decimal-2 c =
@@ -86,19 +74,6 @@ returns-2 c =
 pub put-signed-spec : {M : Type 1} → statement M
 put-signed-spec =
     tie.close
-    (tie.spec
-    slice-write-out
-    add-out
-    slice-write-out-2
-    add-put-decimal
-    sub-put-decimal
-    cast-put-decimal
-    add-put-decimal-2
-    put-decimal-requires
-    add-put-decimal-3
-    cast-put-decimal-2
-    put-decimal-requires-2
-    same-length
-    returns
-    same-length-2
-    returns-2)
+    (tie.spec (λ c. search needs) (λ c. search needs) slice-write-out-2 (λ c. search needs) sub-put-decimal
+    cast-put-decimal add-put-decimal-2 put-decimal-requires (λ c. search needs) cast-put-decimal-2
+    put-decimal-requires-2 same-length returns same-length-2 returns-2)

@@ -6,17 +6,8 @@ use Rattle.listing.proofs.Times.{at-most-six, time-put}
 use Rattle.listing.proofs.put_stamp.Statement.{statement}
 use Rattle.listing.proofs.put_stamp.Tie as tie
 
-put-decimal-requires : tie.Need-put-decimal-requires
-put-decimal-requires c κs = search needs
-
 same-length : tie.Need-same-length
 same-length c = put-length (c .before .before .put-decimal .ensures)
-
-returns : tie.Need-returns
-returns c = search needs
-
-store-kept-requires : tie.Need-store-kept-requires
-store-kept-requires c κs = search needs
 
 add-put-pair : tie.Need-add-put-pair
 add-put-pair c =
@@ -47,13 +38,5 @@ same-length-2 c = put-length (returns-2 c)
 pub put-stamp-spec : {M : Type 1} → statement M
 put-stamp-spec =
     tie.close
-    (tie.spec
-    put-decimal-requires
-    same-length
-    returns
-    store-kept-requires
-    add-put-pair
-    put-pair-requires
-    put-pair-requires-2
-    same-length-2
-    returns-2)
+    (tie.spec (λ c κs. search needs) same-length (λ c. search needs) (λ c κs. search needs) add-put-pair
+    put-pair-requires put-pair-requires-2 same-length-2 returns-2)

@@ -6,23 +6,8 @@ use Rattle.listing.proofs.Decimal.{decimal-most}
 use Rattle.listing.proofs.put_stop.Statement.{statement}
 use Rattle.listing.proofs.put_stop.Tie as tie
 
-enum-told : tie.Need-enum-told
-enum-told c = search needs
-
-enum-known-stop : tie.Need-enum-known-stop
-enum-known-stop c = search needs
-
-slice-aggregate-put-labelled : tie.Need-slice-aggregate-put-labelled
-slice-aggregate-put-labelled c = search needs
-
-cast-put-labelled : tie.Need-cast-put-labelled
-cast-put-labelled c = search needs
-
 put-labelled-requires : tie.Need-put-labelled-requires
 put-labelled-requires c κs = (c .before .before .before .before .before .before .before .pre .0, omega arith)
-
-slice-aggregate-put-labelled-2 : tie.Need-slice-aggregate-put-labelled-2
-slice-aggregate-put-labelled-2 c = search needs
 
 put-labelled-requires-2 : tie.Need-put-labelled-requires-2
 put-labelled-requires-2 c κs =
@@ -51,16 +36,5 @@ same-length c = put-length (returns-2 c)
 pub put-stop-spec : {M : Type 1} → statement M
 put-stop-spec =
     tie.close
-    (tie.spec
-    enum-told
-    enum-known-stop
-    slice-aggregate-put-labelled
-    cast-put-labelled
-    put-labelled-requires
-    slice-aggregate-put-labelled-2
-    put-labelled-requires-2
-    slice-write-out
-    add-result
-    returns
-    same-length
-    returns-2)
+    (tie.spec (λ c. search needs) (λ c. search needs) (λ c. search needs) (λ c. search needs) put-labelled-requires
+    (λ c. search needs) put-labelled-requires-2 slice-write-out add-result returns same-length returns-2)

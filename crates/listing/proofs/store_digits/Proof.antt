@@ -24,18 +24,9 @@ store-pair-requires c κs =
     let p = c .before .before .loop .inv in
     (c .before .before .before .before .pre .0, omega arith, omega (arith, p .ends, partly-keeps p, partly-length p (c .before .loop-test .taken)))
 
-loop-less : tie.Need-loop-less Inv-loop μ-loop
-loop-less c = search needs
-
 loop-again : tie.Need-loop-again Inv-loop μ-loop
 loop-again c =
     rw (c .before .before .store-pair .ensures) (partly-more (c .before .before .before .before .before .loop .inv) (c .before .before .before .before .loop-test .taken))
-
-cast-out : tie.Need-cast-out Inv-loop μ-loop
-cast-out c = search needs
-
-add-out : tie.Need-add-out Inv-loop μ-loop
-add-out c = search needs
 
 slice-write-out : tie.Need-slice-write-out Inv-loop μ-loop
 slice-write-out c =
@@ -62,19 +53,5 @@ returns-2 c = c .before .before .store-pair2 .ensures ∙ partly-two (c .before 
 pub store-digits-spec : {M : Type 1} → statement M
 store-digits-spec =
     tie.close
-    (tie.spec
-    Inv-loop
-    μ-loop
-    loop-holds
-    sub-e
-    store-pair-requires
-    loop-less
-    loop-again
-    cast-out
-    add-out
-    slice-write-out
-    store-pair-requires-2
-    same-length
-    returns
-    same-length-2
-    returns-2)
+    (tie.spec Inv-loop μ-loop loop-holds sub-e store-pair-requires (λ c. search needs) loop-again (λ c. search needs)
+    (λ c. search needs) slice-write-out store-pair-requires-2 same-length returns same-length-2 returns-2)

@@ -7,27 +7,6 @@ use borrow.Author.Needs.{needs}
 use Rattle.listing.proofs.store_pair.Statement.{statement}
 use Rattle.listing.proofs.store_pair.Tie as tie
 
-mul-i : tie.Need-mul-i
-mul-i c = search needs
-
-add-i : tie.Need-add-i
-add-i c = search needs
-
-element-copy-out-tens : tie.Need-element-copy-out-tens
-element-copy-out-tens c = search needs
-
-add-ones : tie.Need-add-ones
-add-ones c = search needs
-
-element-copy-out-ones : tie.Need-element-copy-out-ones
-element-copy-out-ones c = search needs
-
-slice-write-out : tie.Need-slice-write-out
-slice-write-out c = search needs
-
-add-out : tie.Need-add-out
-add-out c = search needs
-
 slice-write-out-2 : tie.Need-slice-write-out-2
 slice-write-out-2 c = simp length-set (omega arith)
 
@@ -42,14 +21,5 @@ returns c =
 pub store-pair-spec : {M : Type 1} → statement M
 store-pair-spec =
     tie.close
-    (tie.spec
-    mul-i
-    add-i
-    element-copy-out-tens
-    add-ones
-    element-copy-out-ones
-    slice-write-out
-    add-out
-    slice-write-out-2
-    same-length
-    returns)
+    (tie.spec (λ c. search needs) (λ c. search needs) (λ c. search needs) (λ c. search needs) (λ c. search needs)
+    (λ c. search needs) (λ c. search needs) slice-write-out-2 same-length returns)

@@ -3,14 +3,8 @@ use borrow.Author.Needs.{needs}
 use Rattle.message.proofs.command_of.Statement.{statement}
 use Rattle.message.proofs.command_of.Tie as tie
 
-kind-of-requires : tie.Need-kind-of-requires
-kind-of-requires c κs = search needs
-
-row-of-requires : tie.Need-row-of-requires
-row-of-requires c κs = search needs
-
 returns : tie.Need-returns
 returns c = rw (c .row-of .ensures, c .before .kind-of .ensures)
 
 pub command-of-spec : {M : Type 1} → statement M
-command-of-spec = tie.close (tie.spec kind-of-requires row-of-requires returns)
+command-of-spec = tie.close (tie.spec (λ c κs. search needs) (λ c κs. search needs) returns)

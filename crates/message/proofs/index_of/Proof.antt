@@ -25,30 +25,15 @@ Inv-loop command table i₀ i = (i ≤ 20) × (findOf command ≡ rowIn (drop i 
 abbrev μ-loop : tie.MeasureT-loop
 μ-loop command table i₀ i = 20 - i
 
-rows-requires : tie.Need-rows-requires Inv-loop μ-loop
-rows-requires c κs = search needs
-
 loop-holds : tie.Need-loop-holds Inv-loop μ-loop
 unfolding findOf
 loop-holds c = (search needs, refl)
-
-mul-row : tie.Need-mul-row Inv-loop μ-loop
-mul-row c = search needs
-
-array-copy-out-row : tie.Need-array-copy-out-row Inv-loop μ-loop
-array-copy-out-row c = search needs
 
 returns : tie.Need-returns Inv-loop μ-loop
 unfolding kinds rowAt
 returns c =
     let table = c .before .before .before .before .before .rows .ensures in
     sym (c .before .before .before .before .loop .inv .1 ∙ row-hit kinds (c .before .before .before .before .loop .i) _ _ (search needs) (rw table at (c .if1 .taken)))
-
-add-i : tie.Need-add-i Inv-loop μ-loop
-add-i c = search needs
-
-loop-less : tie.Need-loop-less Inv-loop μ-loop
-loop-less c = search needs
 
 loop-again : tie.Need-loop-again Inv-loop μ-loop
 unfolding kinds
@@ -65,15 +50,5 @@ returns-2 c =
 pub index-of-spec : {M : Type 1} → statement M
 index-of-spec =
     tie.close
-    (tie.spec
-    Inv-loop
-    μ-loop
-    rows-requires
-    loop-holds
-    mul-row
-    array-copy-out-row
-    returns
-    add-i
-    loop-less
-    loop-again
-    returns-2)
+    (tie.spec Inv-loop μ-loop (λ c κs. search needs) loop-holds (λ c. search needs) (λ c. search needs) returns
+    (λ c. search needs) (λ c. search needs) loop-again returns-2)

@@ -17,69 +17,6 @@ skipped : (n index : ℕ) → Skipped n index → n ≤ index
 skipped zero index s = omega arith
 skipped (suc n) index s = let before = skipped n index (s .0) in omega (arith, before, s .1)
 
-rows-requires : tie.Need-rows-requires
-rows-requires c κs = search needs
-
-array-copy-out-t7 : tie.Need-array-copy-out-t7
-array-copy-out-t7 c = search needs
-
-array-copy-out-t10 : tie.Need-array-copy-out-t10
-array-copy-out-t10 c = search needs
-
-array-copy-out-t13 : tie.Need-array-copy-out-t13
-array-copy-out-t13 c = search needs
-
-array-copy-out-t16 : tie.Need-array-copy-out-t16
-array-copy-out-t16 c = search needs
-
-array-copy-out-t19 : tie.Need-array-copy-out-t19
-array-copy-out-t19 c = search needs
-
-array-copy-out-t22 : tie.Need-array-copy-out-t22
-array-copy-out-t22 c = search needs
-
-array-copy-out-t25 : tie.Need-array-copy-out-t25
-array-copy-out-t25 c = search needs
-
-array-copy-out-t28 : tie.Need-array-copy-out-t28
-array-copy-out-t28 c = search needs
-
-array-copy-out-t31 : tie.Need-array-copy-out-t31
-array-copy-out-t31 c = search needs
-
-array-copy-out-t34 : tie.Need-array-copy-out-t34
-array-copy-out-t34 c = search needs
-
-array-copy-out-t37 : tie.Need-array-copy-out-t37
-array-copy-out-t37 c = search needs
-
-array-copy-out-t40 : tie.Need-array-copy-out-t40
-array-copy-out-t40 c = search needs
-
-array-copy-out-t43 : tie.Need-array-copy-out-t43
-array-copy-out-t43 c = search needs
-
-array-copy-out-t46 : tie.Need-array-copy-out-t46
-array-copy-out-t46 c = search needs
-
-array-copy-out-t49 : tie.Need-array-copy-out-t49
-array-copy-out-t49 c = search needs
-
-array-copy-out-t52 : tie.Need-array-copy-out-t52
-array-copy-out-t52 c = search needs
-
-array-copy-out-t55 : tie.Need-array-copy-out-t55
-array-copy-out-t55 c = search needs
-
-array-copy-out-t58 : tie.Need-array-copy-out-t58
-array-copy-out-t58 c = search needs
-
-array-copy-out-t61 : tie.Need-array-copy-out-t61
-array-copy-out-t61 c = search needs
-
-array-copy-out-t64 : tie.Need-array-copy-out-t64
-array-copy-out-t64 c = search needs
-
 returns : tie.Need-returns
 unfolding kinds rowAt
 returns c = rw (c .before .match .keys1, c .before .before .rows .ensures) refl
@@ -167,46 +104,10 @@ returns-21 c = sym (ap first (drop-of-length-le kinds (skipped 20 (c .before .be
 pub row-at-spec : {M : Type 1} → statement M
 row-at-spec =
     tie.close
-    (tie.spec
-    rows-requires
-    array-copy-out-t7
-    array-copy-out-t10
-    array-copy-out-t13
-    array-copy-out-t16
-    array-copy-out-t19
-    array-copy-out-t22
-    array-copy-out-t25
-    array-copy-out-t28
-    array-copy-out-t31
-    array-copy-out-t34
-    array-copy-out-t37
-    array-copy-out-t40
-    array-copy-out-t43
-    array-copy-out-t46
-    array-copy-out-t49
-    array-copy-out-t52
-    array-copy-out-t55
-    array-copy-out-t58
-    array-copy-out-t61
-    array-copy-out-t64
-    returns
-    returns-2
-    returns-3
-    returns-4
-    returns-5
-    returns-6
-    returns-7
-    returns-8
-    returns-9
-    returns-10
-    returns-11
-    returns-12
-    returns-13
-    returns-14
-    returns-15
-    returns-16
-    returns-17
-    returns-18
-    returns-19
-    returns-20
-    returns-21)
+    (tie.spec (λ c κs. search needs) (λ c. search needs) (λ c. search needs) (λ c. search needs) (λ c. search needs)
+    (λ c. search needs) (λ c. search needs) (λ c. search needs) (λ c. search needs) (λ c. search needs)
+    (λ c. search needs) (λ c. search needs) (λ c. search needs) (λ c. search needs) (λ c. search needs)
+    (λ c. search needs) (λ c. search needs) (λ c. search needs) (λ c. search needs) (λ c. search needs)
+    (λ c. search needs) returns returns-2 returns-3 returns-4 returns-5 returns-6 returns-7 returns-8 returns-9
+    returns-10 returns-11 returns-12 returns-13 returns-14 returns-15 returns-16 returns-17 returns-18 returns-19
+    returns-20 returns-21)

@@ -21,13 +21,10 @@ cast-result-2 c =
     rw (lifted (c .args .z) (c .fits .z), toZ-pos w64 (lift (c .args .z)) (lift-small (c .args .z) (c .fits .z .sfits)))
     (tt, record { fits = omega (arith, lift-small (c .args .z) (c .fits .z .sfits)) })
 
-cast-result-3 : tie.Need-cast-result-3
-cast-result-3 c = search needs
-
 returns : tie.Need-returns
 returns c =
     rw (lifted (c .args .z) (c .fits .z), toZ-pos w64 (lift (c .args .z)) (lift-small (c .args .z) (c .fits .z .sfits)))
     (lift-bits (c .args .z) (c .fits .z .sfits))
 
 pub bits-of-spec : {M : Type 1} → statement M
-bits-of-spec = tie.close (tie.spec cast-result add-result cast-result-2 cast-result-3 returns)
+bits-of-spec = tie.close (tie.spec cast-result add-result cast-result-2 (λ c. search needs) returns)

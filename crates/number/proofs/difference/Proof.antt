@@ -11,12 +11,6 @@ use Rattle.number.proofs.Signed.{diff-small}
 use Rattle.number.proofs.difference.Statement.{statement}
 use Rattle.number.proofs.difference.Tie as tie
 
-cast-result : tie.Need-cast-result
-cast-result c = search needs
-
-cast-result-2 : tie.Need-cast-result-2
-cast-result-2 c = search needs
-
 -- the machine's difference of two words is that of the numbers
 apart : (a b : ℕ) → a < 65536 → b < 65536 → toZ w32 a -ℤ toZ w32 b ≡ pos a -ℤ pos b
 apart a b h k =
@@ -37,4 +31,4 @@ returns c =
     ∙ toZ-ofZ w32 (pos (a .a) -ℤ pos (a .b)) (small (a .a) (a .b) (omega arith) (omega arith))
 
 pub difference-spec : {M : Type 1} → statement M
-difference-spec = tie.close (tie.spec cast-result cast-result-2 sub-result returns)
+difference-spec = tie.close (tie.spec (λ c. search needs) (λ c. search needs) sub-result returns)

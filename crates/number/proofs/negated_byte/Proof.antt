@@ -8,12 +8,6 @@ use Rattle.number.proofs.Signed.{negated-low, negated-high}
 use Rattle.number.proofs.negated_byte.Statement.{statement}
 use Rattle.number.proofs.negated_byte.Tie as tie
 
-difference-requires : tie.Need-difference-requires
-difference-requires c κs = search needs
-
-difference-requires-2 : tie.Need-difference-requires-2
-difference-requires-2 c κs = search needs
-
 returns : tie.Need-returns
 returns c = toZ-ofZ w32 _ (record { sfits = c .difference .ok }) ∙ c .difference .ensures ∙ negated-low (c .before .before .args .b) (omega arith)
 
@@ -23,4 +17,4 @@ returns-2 c =
     ∙ negated-high (c .before .before .args .b) (omega arith) (omega arith)
 
 pub negated-byte-spec : {M : Type 1} → statement M
-negated-byte-spec = tie.close (tie.spec difference-requires difference-requires-2 returns returns-2)
+negated-byte-spec = tie.close (tie.spec (λ c κs. search needs) (λ c κs. search needs) returns returns-2)

@@ -4,51 +4,6 @@ use mathlib.Core.Path.{_∙_}
 use Rattle.progress.proofs.advance.Statement.{statement}
 use Rattle.progress.proofs.advance.Tie as tie
 
-enum-told : tie.Need-enum-told
-enum-told c = search needs
-
-progressed-requires : tie.Need-progressed-requires
-progressed-requires c κs = search needs
-
-enum-told-2 : tie.Need-enum-told-2
-enum-told-2 c = search needs
-
-count-requires : tie.Need-count-requires
-count-requires c κs = search needs
-
-progressed-requires-2 : tie.Need-progressed-requires-2
-progressed-requires-2 c κs = search needs
-
-enum-told-3 : tie.Need-enum-told-3
-enum-told-3 c = search needs
-
-count-requires-2 : tie.Need-count-requires-2
-count-requires-2 c κs = search needs
-
-progressed-requires-3 : tie.Need-progressed-requires-3
-progressed-requires-3 c κs = search needs
-
-enum-told-4 : tie.Need-enum-told-4
-enum-told-4 c = search needs
-
-progressed-requires-4 : tie.Need-progressed-requires-4
-progressed-requires-4 c κs = search needs
-
-enum-told-5 : tie.Need-enum-told-5
-enum-told-5 c = search needs
-
-count-requires-3 : tie.Need-count-requires-3
-count-requires-3 c κs = search needs
-
-progressed-requires-5 : tie.Need-progressed-requires-5
-progressed-requires-5 c κs = search needs
-
-enum-told-6 : tie.Need-enum-told-6
-enum-told-6 c = search needs
-
-progressed-requires-6 : tie.Need-progressed-requires-6
-progressed-requires-6 c κs = search needs
-
 returns : tie.Need-returns
 returns c = c .progressed .ensures ∙ rw (c .before .enum-told .given .1)
 
@@ -70,25 +25,10 @@ returns-6 c = c .progressed6 .ensures ∙ rw (c .before .enum-told6 .given .1)
 pub advance-spec : {M : Type 1} → statement M
 advance-spec =
     tie.close
-    (tie.spec
-    enum-told
-    progressed-requires
-    enum-told-2
-    count-requires
-    progressed-requires-2
-    enum-told-3
-    count-requires-2
-    progressed-requires-3
-    enum-told-4
-    progressed-requires-4
-    enum-told-5
-    count-requires-3
-    progressed-requires-5
-    enum-told-6
-    progressed-requires-6
-    returns
-    returns-2
-    returns-3
-    returns-4
-    returns-5
-    returns-6)
+    (tie.spec (λ c. search needs) (λ c κs. search needs)
+    (λ c. search needs) (λ c κs. search needs) (λ c κs. search needs)
+    (λ c. search needs) (λ c κs. search needs) (λ c κs. search needs)
+    (λ c. search needs) (λ c κs. search needs)
+    (λ c. search needs) (λ c κs. search needs) (λ c κs. search needs)
+    (λ c. search needs) (λ c κs. search needs)
+    returns returns-2 returns-3 returns-4 returns-5 returns-6)

@@ -4,9 +4,6 @@ use mathlib.Core.Path.{_∙_}
 use Rattle.progress.proofs.count.Statement.{statement}
 use Rattle.progress.proofs.count.Tie as tie
 
-wrapping-add-u64-requires : tie.Need-wrapping-add-u64-requires
-wrapping-add-u64-requires c κs = search needs
-
 returns : tie.Need-returns
 returns c = c .wrapping-add-u64 .ensures ∙ rw (c .before .if1 .taken)
 
@@ -14,4 +11,4 @@ returns-2 : tie.Need-returns-2
 returns-2 c = rw (c .if1 .left)
 
 pub count-spec : {M : Type 1} → statement M
-count-spec = tie.close (tie.spec wrapping-add-u64-requires returns returns-2)
+count-spec = tie.close (tie.spec (λ c κs. search needs) returns returns-2)

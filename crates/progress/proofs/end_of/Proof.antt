@@ -5,18 +5,6 @@ use Rattle.progress.specs.Progress.{cutOff}
 use Rattle.progress.proofs.end_of.Statement.{statement}
 use Rattle.progress.proofs.end_of.Tie as tie
 
-record-at-requires : tie.Need-record-at-requires
-record-at-requires c κs = search needs
-
-enum-told : tie.Need-enum-told
-enum-told c = search needs
-
-enum-told-2 : tie.Need-enum-told-2
-enum-told-2 c = search needs
-
-enum-known-r : tie.Need-enum-known-r
-enum-known-r c = search needs
-
 returns : tie.Need-returns
 returns c = sym (ap cutOff (sym (c .before .before .record-at .ensures) ∙ c .enum-told .given .1))
 
@@ -29,4 +17,5 @@ returns-3 c = sym (ap cutOff (sym (c .before .before .before .record-at .ensures
 pub end-of-spec : {M : Type 1} → statement M
 end-of-spec =
     tie.close
-    (tie.spec record-at-requires enum-told enum-told-2 enum-known-r returns returns-2 returns-3)
+    (tie.spec (λ c κs. search needs) (λ c. search needs) (λ c. search needs) (λ c. search needs) returns returns-2
+    returns-3)

@@ -5,21 +5,10 @@ use Rattle.progress.specs.Progress.{placedFrom}
 use Rattle.progress.proofs.placed_from.Statement.{statement}
 use Rattle.progress.proofs.placed_from.Tie as tie
 
-enum-told : tie.Need-enum-told
-enum-told c = search needs
-
-enum-known-stop : tie.Need-enum-known-stop
-enum-known-stop c = search needs
-
-wrapping-add-u64-requires : tie.Need-wrapping-add-u64-requires
-wrapping-add-u64-requires c κs = search needs
-
-returns : tie.Need-returns
-returns c = search needs
-
 returns-2 : tie.Need-returns-2
 returns-2 c = rw (c .wrapping-add-u64 .ensures) (sym (ap (placedFrom (c .before .before .before .before .args .base)) (c .before .before .stop .given .1)))
 
 pub placed-from-spec : {M : Type 1} → statement M
 placed-from-spec =
-    tie.close (tie.spec enum-told enum-known-stop wrapping-add-u64-requires returns returns-2)
+    tie.close
+    (tie.spec (λ c. search needs) (λ c. search needs) (λ c κs. search needs) (λ c. search needs) returns-2)

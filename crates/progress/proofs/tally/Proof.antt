@@ -4,18 +4,6 @@ use mathlib.Core.Path.{refl, _∙_}
 use Rattle.progress.proofs.tally.Statement.{statement}
 use Rattle.progress.proofs.tally.Tie as tie
 
-count-requires : tie.Need-count-requires
-count-requires c κs = search needs
-
-count-requires-2 : tie.Need-count-requires-2
-count-requires-2 c κs = search needs
-
-count-requires-3 : tie.Need-count-requires-3
-count-requires-3 c κs = search needs
-
-progressed-requires : tie.Need-progressed-requires
-progressed-requires c κs = search needs
-
 returns : tie.Need-returns
 returns c =
     c .progressed .ensures ∙ rw (c .before .before .before .count .ensures, c .before .before .count2 .ensures, c .before .count3 .ensures) refl
@@ -23,4 +11,4 @@ returns c =
 pub tally-spec : {M : Type 1} → statement M
 tally-spec =
     tie.close
-    (tie.spec count-requires count-requires-2 count-requires-3 progressed-requires returns)
+    (tie.spec (λ c κs. search needs) (λ c κs. search needs) (λ c κs. search needs) (λ c κs. search needs) returns)

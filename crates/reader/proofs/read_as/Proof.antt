@@ -7,15 +7,6 @@ use Rattle.message.specs.Reading.{readAs}
 use Rattle.reader.proofs.read_as.Statement.{statement}
 use Rattle.reader.proofs.read_as.Tie as tie
 
-enum-told : tie.Need-enum-told
-enum-told c = search needs
-
-enum-known-found : tie.Need-enum-known-found
-enum-known-found c = search needs
-
-read-sized-requires : tie.Need-read-sized-requires
-read-sized-requires c κs = search needs
-
 returns : tie.Need-returns
 returns c = sym (ap (λ (l : Lookup). readAs l (now (c .before .before .before .args .bytes))) (c .enum-told .given .1))
 
@@ -23,5 +14,4 @@ returns-2 : tie.Need-returns-2
 returns-2 c = rw (c .before .before .found .given .1) (c .read-sized .ensures)
 
 pub read-as-spec : {M : Type 1} → statement M
-read-as-spec =
-    tie.close (tie.spec enum-told enum-known-found read-sized-requires returns returns-2)
+read-as-spec = tie.close (tie.spec (λ c. search needs) (λ c. search needs) (λ c κs. search needs) returns returns-2)

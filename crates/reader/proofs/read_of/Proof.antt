@@ -12,21 +12,12 @@ use Rattle.reader.specs.OfKind.{readOfKind}
 use Rattle.reader.proofs.read_of.Statement.{statement}
 use Rattle.reader.proofs.read_of.Tie as tie
 
-is-whole-requires : tie.Need-is-whole-requires
-is-whole-requires c κs = search needs
-
 returns : tie.Need-returns
 unfolding readOfKind
 returns c =
     let s = c .before .before .before .args .bytes .now in
     let partial : whole s ≡ false = sym (c .before .is-whole .ensures) ∙ not-true _ (c .if1 .taken) in
     rw partial refl
-
-row-of-requires : tie.Need-row-of-requires
-row-of-requires c κs = search needs
-
-byte-at-requires : tie.Need-byte-at-requires
-byte-at-requires c κs = search needs
 
 returns-2 : tie.Need-returns-2
 unfolding readOfKind
@@ -37,9 +28,6 @@ returns-2 c =
     let other : eqb (byte s 0) (rowOf (a .kind) .command) ≡ false =
     ne-eqb _ _ (λ e. c .if2 .taken (c .before .before .byte-at .ensures ∙ e ∙ sym (ap (λ (r : Row). r .command) (c .before .before .before .row-of .ensures)))) in
     rw (w, other) refl
-
-read-sized-requires : tie.Need-read-sized-requires
-read-sized-requires c κs = search needs
 
 returns-3 : tie.Need-returns-3
 unfolding readOfKind
@@ -55,11 +43,5 @@ returns-3 c =
 pub read-of-spec : {M : Type 1} → statement M
 read-of-spec =
     tie.close
-    (tie.spec
-    is-whole-requires
-    returns
-    row-of-requires
-    byte-at-requires
-    returns-2
-    read-sized-requires
-    returns-3)
+    (tie.spec (λ c κs. search needs) returns (λ c κs. search needs) (λ c κs. search needs) returns-2
+    (λ c κs. search needs) returns-3)

@@ -5,9 +5,6 @@ use mathlib.Core.Path.{refl}
 use Rattle.reader.proofs.read_sized.Statement.{statement}
 use Rattle.reader.proofs.read_sized.Tie as tie
 
-read-kind-requires : tie.Need-read-kind-requires
-read-kind-requires c κs = search needs
-
 returns : tie.Need-returns
 returns c = rw (eq-eqb _ _ (c .before .if1 .taken)) (c .read-kind .ensures)
 
@@ -15,4 +12,4 @@ returns-2 : tie.Need-returns-2
 returns-2 c = rw (ne-eqb _ _ (c .if1 .left)) refl
 
 pub read-sized-spec : {M : Type 1} → statement M
-read-sized-spec = tie.close (tie.spec read-kind-requires returns returns-2)
+read-sized-spec = tie.close (tie.spec (λ c κs. search needs) returns returns-2)

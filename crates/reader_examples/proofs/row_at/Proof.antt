@@ -12,15 +12,9 @@ use Rattle.reader_examples.proofs.row_at.Tie as tie
 abbrev past-the-table : Row
 past-the-table = record { bytes = []; count = 0; refusal = 0 }
 
-mul-result : tie.Need-mul-result
-mul-result c = search needs
-
-array-copy-out-result : tie.Need-array-copy-out-result
-array-copy-out-result c = search needs
-
 returns : tie.Need-returns
 unfolding examples padTo
 returns c = row (c .before .args .i) past-the-table (c .before .pre)
 
 pub row-at-spec : {M : Type 1} → statement M
-row-at-spec = tie.close (tie.spec mul-result array-copy-out-result returns)
+row-at-spec = tie.close (tie.spec (λ c. search needs) (λ c. search needs) returns)

@@ -16,17 +16,11 @@ use Rattle.recording.proofs.judged.Tie as tie
 unmarked : (at mark second time symbol : ℕ) → eqb mark 0x53 && eqb second 0x54 ≡ false → judgedRecord at mark second time symbol ≡ Refused (noMark at)
 unmarked at mark second time symbol h = rw h
 
-no-mark-requires : tie.Need-no-mark-requires
-no-mark-requires c κs = search needs
-
 returns : tie.Need-returns
 returns c =
     let a = c .before .before .args in
     ap Refused (c .no-mark .ensures)
     ∙ sym (unmarked (a .at) (a .mark) (a .second) (a .low + 65536 * a .high) (a .symbol) (rw (ne-eqb (a .mark) 0x53 (λ e. omega (arith, c .before .if1 .taken)))))
-
-no-mark-requires-2 : tie.Need-no-mark-requires-2
-no-mark-requires-2 c κs = search needs
 
 returns-2 : tie.Need-returns-2
 returns-2 c =
@@ -35,23 +29,11 @@ returns-2 c =
     ap Refused (c .no-mark2 .ensures)
     ∙ sym (unmarked (a .at) (a .mark) (a .second) (a .low + 65536 * a .high) (a .symbol) (rw (eq-eqb (a .mark) 0x53 (omega arith), ne-eqb (a .second) 0x54 (λ e. omega (arith, c .before .if2 .taken)))))
 
-symbol-above-at-requires : tie.Need-symbol-above-at-requires
-symbol-above-at-requires c κs = search needs
-
 returns-3 : tie.Need-returns-3
 returns-3 c =
     let start = c .before .before .before .before in
     ap Refused (c .symbol-above-at .ensures)
     ∙ rw (eq-eqb (start .args .mark) 0x53 (omega arith), eq-eqb (start .args .second) 0x54 (omega arith), lt-leb (start .args .symbol) 511 (omega arith))
-
-mul-t11 : tie.Need-mul-t11
-mul-t11 c = search needs
-
-add-t12 : tie.Need-add-t12
-add-t12 c = search needs
-
-cast-t13 : tie.Need-cast-t13
-cast-t13 c = search needs
 
 returns-4 : tie.Need-returns-4
 returns-4 c =
@@ -61,14 +43,5 @@ returns-4 c =
 pub judged-spec : {M : Type 1} → statement M
 judged-spec =
     tie.close
-    (tie.spec
-    no-mark-requires
-    returns
-    no-mark-requires-2
-    returns-2
-    symbol-above-at-requires
-    returns-3
-    mul-t11
-    add-t12
-    cast-t13
-    returns-4)
+    (tie.spec (λ c κs. search needs) returns (λ c κs. search needs) returns-2 (λ c κs. search needs) returns-3
+    (λ c. search needs) (λ c. search needs) (λ c. search needs) returns-4)

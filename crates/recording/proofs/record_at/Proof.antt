@@ -18,9 +18,6 @@ cut : (s : List ℕ) (at : ℕ) → at ≤ length s → (length s ≡ at → ⊥
 unfolding recordOf
 cut s at within inside few = rw (le-leb at (length s) within, ne-eqb (length s) at inside, lt-leb 8 (length s - at) few)
 
-cut-short-requires : tie.Need-cut-short-requires
-cut-short-requires c κs = search needs
-
 returns : tie.Need-returns
 unfolding recordOf
 returns c = ap Refused (c .cut-short .ensures) ∙ rw (lt-leb _ _ (c .before .if1 .taken))
@@ -29,68 +26,11 @@ returns-2 : tie.Need-returns-2
 unfolding recordOf
 returns-2 c = rw (le-leb _ _ (c .before .if1 .left), eq-eqb _ _ (c .if2 .taken))
 
-cut-short-requires-2 : tie.Need-cut-short-requires-2
-cut-short-requires-2 c κs = search needs
-
 returns-3 : tie.Need-returns-3
 returns-3 c =
     let a = c .before .before .before .before .before .args in
     ap Refused (c .cut-short2 .ensures)
     ∙ sym (cut (now (a .bytes)) (a .at) (c .before .before .before .if1 .left) (c .before .before .if2 .left) (c .before .if3 .taken))
-
-shared-slice-read-judged : tie.Need-shared-slice-read-judged
-shared-slice-read-judged c = search needs
-
-add-judged : tie.Need-add-judged
-add-judged c = search needs
-
-shared-slice-read-judged-2 : tie.Need-shared-slice-read-judged-2
-shared-slice-read-judged-2 c = search needs
-
-add-word-of : tie.Need-add-word-of
-add-word-of c = search needs
-
-shared-slice-read-word-of : tie.Need-shared-slice-read-word-of
-shared-slice-read-word-of c = search needs
-
-add-word-of-2 : tie.Need-add-word-of-2
-add-word-of-2 c = search needs
-
-shared-slice-read-word-of-2 : tie.Need-shared-slice-read-word-of-2
-shared-slice-read-word-of-2 c = search needs
-
-word-of-requires : tie.Need-word-of-requires
-word-of-requires c κs = search needs
-
-add-word-of-3 : tie.Need-add-word-of-3
-add-word-of-3 c = search needs
-
-shared-slice-read-word-of-3 : tie.Need-shared-slice-read-word-of-3
-shared-slice-read-word-of-3 c = search needs
-
-add-word-of-4 : tie.Need-add-word-of-4
-add-word-of-4 c = search needs
-
-shared-slice-read-word-of-4 : tie.Need-shared-slice-read-word-of-4
-shared-slice-read-word-of-4 c = search needs
-
-word-of-requires-2 : tie.Need-word-of-requires-2
-word-of-requires-2 c κs = search needs
-
-add-word-of-5 : tie.Need-add-word-of-5
-add-word-of-5 c = search needs
-
-shared-slice-read-word-of-5 : tie.Need-shared-slice-read-word-of-5
-shared-slice-read-word-of-5 c = search needs
-
-add-word-of-6 : tie.Need-add-word-of-6
-add-word-of-6 c = search needs
-
-shared-slice-read-word-of-6 : tie.Need-shared-slice-read-word-of-6
-shared-slice-read-word-of-6 c = search needs
-
-word-of-requires-3 : tie.Need-word-of-requires-3
-word-of-requires-3 c κs = search needs
 
 judged-requires : tie.Need-judged-requires
 judged-requires c κs =
@@ -112,29 +52,8 @@ returns-4 c =
 pub record-at-spec : {M : Type 1} → statement M
 record-at-spec =
     tie.close
-    (tie.spec
-    cut-short-requires
-    returns
-    returns-2
-    cut-short-requires-2
-    returns-3
-    shared-slice-read-judged
-    add-judged
-    shared-slice-read-judged-2
-    add-word-of
-    shared-slice-read-word-of
-    add-word-of-2
-    shared-slice-read-word-of-2
-    word-of-requires
-    add-word-of-3
-    shared-slice-read-word-of-3
-    add-word-of-4
-    shared-slice-read-word-of-4
-    word-of-requires-2
-    add-word-of-5
-    shared-slice-read-word-of-5
-    add-word-of-6
-    shared-slice-read-word-of-6
-    word-of-requires-3
-    judged-requires
-    returns-4)
+    (tie.spec (λ c κs. search needs) returns returns-2 (λ c κs. search needs) returns-3 (λ c. search needs)
+    (λ c. search needs) (λ c. search needs) (λ c. search needs) (λ c. search needs) (λ c. search needs)
+    (λ c. search needs) (λ c κs. search needs) (λ c. search needs) (λ c. search needs) (λ c. search needs)
+    (λ c. search needs) (λ c κs. search needs) (λ c. search needs) (λ c. search needs) (λ c. search needs)
+    (λ c. search needs) (λ c κs. search needs) judged-requires returns-4)

@@ -20,21 +20,6 @@ module _ (n : ℕ) (h : n < 2147483648) where
   negated : toZ w32 (ofZ w32 (pos 0 -ℤ toZ w32 n)) ≡ negℤ (pos n)
   negated = toZ-ofZ w32 (pos 0 -ℤ toZ w32 n) fits ∙ rw (toZ-pos w32 n h) (+ℤ-idl (negℤ (pos n)))
 
-cast-n : tie.Need-cast-n
-cast-n c = search needs
-
-cast-n-2 : tie.Need-cast-n-2
-cast-n-2 c = search needs
-
-mul-n : tie.Need-mul-n
-mul-n c = search needs
-
-add-n : tie.Need-add-n
-add-n c = search needs
-
-cast-result : tie.Need-cast-result
-cast-result c = search needs
-
 sub-result : tie.Need-sub-result
 sub-result c = let r = c .before .before .args .r in fits (r .number + 256 * (r .place % 8388608)) (omega arith)
 
@@ -43,4 +28,7 @@ unfolding codeOf
 returns c = let r = c .before .before .args .r in negated (r .number + 256 * (r .place % 8388608)) (omega arith)
 
 pub code-of-spec : {M : Type 1} → statement M
-code-of-spec = tie.close (tie.spec cast-n cast-n-2 mul-n add-n cast-result sub-result returns)
+code-of-spec =
+    tie.close
+    (tie.spec (λ c. search needs) (λ c. search needs) (λ c. search needs) (λ c. search needs) (λ c. search needs)
+    sub-result returns)

@@ -34,18 +34,9 @@ above : (s : Sender) (symbol : ℕ) → 511 < symbol → echoOf s symbol ≡ out
 unfolding echoOf
 above s symbol h = rw (lt-ltb 511 symbol h)
 
-answered-requires : tie.Need-answered-requires
-answered-requires c κs = search needs
-
 returns : tie.Need-returns
 unfolding echoOf
 returns c = let a = c .before .before .args in c .answered .ensures ∙ sym (above (a .s) (a .symbol) (omega arith))
-
-is-sound-requires : tie.Need-is-sound-requires
-is-sound-requires c κs = search needs
-
-answered-requires-2 : tie.Need-answered-requires-2
-answered-requires-2 c κs = search needs
 
 returns-2 : tie.Need-returns-2
 unfolding echoOf
@@ -54,35 +45,11 @@ returns-2 c =
     let unsound : sound (a .s) ≡ false = sym (c .before .before .is-sound .ensures) ∙ not-true _ (c .before .if2 .taken) in
     c .answered2 .ensures ∙ rw (le-ltb 511 (a .symbol) (omega arith), unsound)
 
-enum-told : tie.Need-enum-told
-enum-told c = search needs
-
-answered-requires-3 : tie.Need-answered-requires-3
-answered-requires-3 c κs = search needs
-
-enum-told-2 : tie.Need-enum-told-2
-enum-told-2 c = search needs
-
-symbol-at-requires : tie.Need-symbol-at-requires
-symbol-at-requires c κs = search needs
-
 heard-right-requires : tie.Need-heard-right-requires
 heard-right-requires c κs = awaiting (c .before .before) .0
 
 heard-wrong-requires : tie.Need-heard-wrong-requires
 heard-wrong-requires c κs = awaiting (c .before .before) .1
-
-enum-told-3 : tie.Need-enum-told-3
-enum-told-3 c = search needs
-
-answered-requires-4 : tie.Need-answered-requires-4
-answered-requires-4 c κs = search needs
-
-enum-told-4 : tie.Need-enum-told-4
-enum-told-4 c = search needs
-
-answered-requires-5 : tie.Need-answered-requires-5
-answered-requires-5 c κs = search needs
 
 returns-3 : tie.Need-returns-3
 returns-3 c = c .answered3 .ensures ∙ sym (goes-by (c .before .before .before) _ (c .before .enum-told .given .1))
@@ -112,24 +79,9 @@ returns-7 c = c .answered5 .ensures ∙ sym (goes-by (c .before .before .before)
 pub echo-spec : {M : Type 1} → statement M
 echo-spec =
     tie.close
-    (tie.spec
-    answered-requires
-    returns
-    is-sound-requires
-    answered-requires-2
-    returns-2
-    enum-told
-    answered-requires-3
-    enum-told-2
-    symbol-at-requires
-    heard-right-requires
-    heard-wrong-requires
-    enum-told-3
-    answered-requires-4
-    enum-told-4
-    answered-requires-5
-    returns-3
-    returns-4
-    returns-5
-    returns-6
-    returns-7)
+    (tie.spec (λ c κs. search needs)
+    returns (λ c κs. search needs) (λ c κs. search needs) returns-2
+    (λ c. search needs) (λ c κs. search needs)
+    (λ c. search needs) (λ c κs. search needs) heard-right-requires heard-wrong-requires
+    (λ c. search needs) (λ c κs. search needs)
+    (λ c. search needs) (λ c κs. search needs) returns-3 returns-4 returns-5 returns-6 returns-7)

@@ -8,27 +8,6 @@ use Rattle.sender.specs.State.{lengthOf}
 use Rattle.sender.proofs.heard_right.Statement.{statement}
 use Rattle.sender.proofs.heard_right.Tie as tie
 
-add-next : tie.Need-add-next
-add-next c = search needs
-
-length-of-requires : tie.Need-length-of-requires
-length-of-requires c κs = search needs
-
-moved-requires : tie.Need-moved-requires
-moved-requires c κs = search needs
-
-answered-requires : tie.Need-answered-requires
-answered-requires c κs = search needs
-
-symbol-at-requires : tie.Need-symbol-at-requires
-symbol-at-requires c κs = search needs
-
-moved-requires-2 : tie.Need-moved-requires-2
-moved-requires-2 c κs = search needs
-
-answered-requires-2 : tie.Need-answered-requires-2
-answered-requires-2 c κs = search needs
-
 returns : tie.Need-returns
 returns c =
     let s = c .before .before .before .before .before .args .s in
@@ -42,13 +21,5 @@ returns-2 c =
 pub heard-right-spec : {M : Type 1} → statement M
 heard-right-spec =
     tie.close
-    (tie.spec
-    add-next
-    length-of-requires
-    moved-requires
-    answered-requires
-    symbol-at-requires
-    moved-requires-2
-    answered-requires-2
-    returns
-    returns-2)
+    (tie.spec (λ c. search needs) (λ c κs. search needs) (λ c κs. search needs) (λ c κs. search needs)
+    (λ c κs. search needs) (λ c κs. search needs) (λ c κs. search needs) returns returns-2)

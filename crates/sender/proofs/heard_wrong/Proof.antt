@@ -7,21 +7,6 @@ use native.Mathlib.Omega.{arith}
 use Rattle.sender.proofs.heard_wrong.Statement.{statement}
 use Rattle.sender.proofs.heard_wrong.Tie as tie
 
-add-failures : tie.Need-add-failures
-add-failures c = search needs
-
-moved-requires : tie.Need-moved-requires
-moved-requires c κs = search needs
-
-answered-requires : tie.Need-answered-requires
-answered-requires c κs = search needs
-
-moved-requires-2 : tie.Need-moved-requires-2
-moved-requires-2 c κs = search needs
-
-answered-requires-2 : tie.Need-answered-requires-2
-answered-requires-2 c κs = search needs
-
 returns : tie.Need-returns
 returns c =
     let s = c .before .before .before .before .before .args .s in
@@ -35,11 +20,5 @@ returns-2 c =
 pub heard-wrong-spec : {M : Type 1} → statement M
 heard-wrong-spec =
     tie.close
-    (tie.spec
-    add-failures
-    moved-requires
-    answered-requires
-    moved-requires-2
-    answered-requires-2
-    returns
-    returns-2)
+    (tie.spec (λ c. search needs) (λ c κs. search needs) (λ c κs. search needs) (λ c κs. search needs)
+    (λ c κs. search needs) returns returns-2)

@@ -12,9 +12,6 @@ use Rattle.sender.proofs.State.{sound-is}
 use Rattle.sender.proofs.is_sound.Statement.{statement}
 use Rattle.sender.proofs.is_sound.Tie as tie
 
-length-of-requires : tie.Need-length-of-requires
-length-of-requires c κs = search needs
-
 returns : tie.Need-returns
 returns c =
     let s = c .before .before .args .t1 in
@@ -30,20 +27,11 @@ returns-3 c =
     let s = c .before .before .before .before .args .t1 in
     rw (sound-is s (search needs), lt-leb (s .limit) 50 (omega arith), and-false, and-false, and-false)
 
-cast-zeros-from : tie.Need-cast-zeros-from
-cast-zeros-from c = search needs
-
-zeros-from-requires : tie.Need-zeros-from-requires
-zeros-from-requires c κs = search needs
-
 returns-4 : tie.Need-returns-4
 returns-4 c =
     let s = c .before .before .before .before .before .before .before .before .before .args .t1 in
     let none : allZero (drop (lengthOf s) (s .datagram)) ≡ false = cc (not-true (c .before .zeros-from .result) (c .if4 .taken)) in
     rw (sound-is s (search needs), none)
-
-phase-sound-requires : tie.Need-phase-sound-requires
-phase-sound-requires c κs = search needs
 
 returns-5 : tie.Need-returns-5
 returns-5 c =
@@ -57,13 +45,5 @@ returns-5 c =
 pub is-sound-spec : {M : Type 1} → statement M
 is-sound-spec =
     tie.close
-    (tie.spec
-    length-of-requires
-    returns
-    returns-2
-    returns-3
-    cast-zeros-from
-    zeros-from-requires
-    returns-4
-    phase-sound-requires
-    returns-5)
+    (tie.spec (λ c κs. search needs) returns returns-2 returns-3 (λ c. search needs) (λ c κs. search needs) returns-4
+    (λ c κs. search needs) returns-5)

@@ -33,12 +33,6 @@ not-whole : (bytes : List ℕ) (wait limit : ℕ) → whole bytes ≡ false → 
 unfolding offerOf
 not-whole bytes wait limit h = rw h
 
-is-whole-requires : tie.Need-is-whole-requires
-is-whole-requires c κs = search needs
-
-refused-offer-requires : tie.Need-refused-offer-requires
-refused-offer-requires c κs = search needs
-
 returns : tie.Need-returns
 unfolding offerOf
 returns c =
@@ -46,35 +40,20 @@ returns c =
     let broken : whole (now (a .bytes)) ≡ false = sym (c .before .before .is-whole .ensures) ∙ not-true _ (c .before .if1 .taken) in
     c .refused-offer .ensures ∙ sym (not-whole (now (a .bytes)) (a .wait) (a .limit) broken)
 
-cast-waits : tie.Need-cast-waits
-cast-waits c = search needs
-
-refused-offer-requires-2 : tie.Need-refused-offer-requires-2
-refused-offer-requires-2 c κs = search needs
-
 returns-2 : tie.Need-returns-2
 returns-2 c =
     let j = c .before .before in
     c .refused-offer2 .ensures ∙ sym (decides j ∙ rw (lt-leb 10 (j .if2 .waits) (omega arith)))
-
-refused-offer-requires-3 : tie.Need-refused-offer-requires-3
-refused-offer-requires-3 c κs = search needs
 
 returns-3 : tie.Need-returns-3
 returns-3 c =
     let j = c .before .before .before in
     c .refused-offer3 .ensures ∙ sym (decides j ∙ rw (lt-leb (j .if2 .waits) 255 (omega arith), and-false))
 
-refused-offer-requires-4 : tie.Need-refused-offer-requires-4
-refused-offer-requires-4 c κs = search needs
-
 returns-4 : tie.Need-returns-4
 returns-4 c =
     let j = c .before .before .before .before in
     c .refused-offer4 .ensures ∙ sym (decides j ∙ rw (lt-leb 1 (j .before .before .before .before .args .limit) (omega arith), and-false))
-
-refused-offer-requires-5 : tie.Need-refused-offer-requires-5
-refused-offer-requires-5 c κs = search needs
 
 returns-5 : tie.Need-returns-5
 returns-5 c =
@@ -83,12 +62,6 @@ returns-5 c =
 
 padded-requires : tie.Need-padded-requires
 padded-requires c κs = omega (arith, declares (now (c .before .before .before .before .before .before .before .before .args .bytes)) (past-whole (c .before .before .before .before .before)))
-
-cast-t16 : tie.Need-cast-t16
-cast-t16 c = search needs
-
-cast-t17 : tie.Need-cast-t17
-cast-t17 c = search needs
 
 returns-6 : tie.Need-returns-6
 returns-6 c =
@@ -100,20 +73,6 @@ returns-6 c =
 pub offer-spec : {M : Type 1} → statement M
 offer-spec =
     tie.close
-    (tie.spec
-    is-whole-requires
-    refused-offer-requires
-    returns
-    cast-waits
-    refused-offer-requires-2
-    returns-2
-    refused-offer-requires-3
-    returns-3
-    refused-offer-requires-4
-    returns-4
-    refused-offer-requires-5
-    returns-5
-    padded-requires
-    cast-t16
-    cast-t17
-    returns-6)
+    (tie.spec (λ c κs. search needs) (λ c κs. search needs) returns (λ c. search needs) (λ c κs. search needs) returns-2
+    (λ c κs. search needs) returns-3 (λ c κs. search needs) returns-4 (λ c κs. search needs) returns-5 padded-requires
+    (λ c. search needs) (λ c. search needs) returns-6)

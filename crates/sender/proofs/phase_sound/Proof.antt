@@ -5,32 +5,20 @@ use native.Mathlib.Omega.{arith}
 use Rattle.sender.proofs.phase_sound.Statement.{statement}
 use Rattle.sender.proofs.phase_sound.Tie as tie
 
-enum-told : tie.Need-enum-told
-enum-told c = search needs
-
 returns : tie.Need-returns
 returns c =
     let a = c .before .before .before .args in
     rw (c .before .enum-told .given .1, eq-eqb (a .position) 0 (omega arith))
-
-enum-told-2 : tie.Need-enum-told-2
-enum-told-2 c = search needs
 
 returns-2 : tie.Need-returns-2
 returns-2 c =
     let a = c .before .before .before .args in
     rw (c .before .enum-told2 .given .1, lt-ltb (a .position) (a .size) (omega arith))
 
-enum-told-3 : tie.Need-enum-told-3
-enum-told-3 c = search needs
-
 returns-3 : tie.Need-returns-3
 returns-3 c =
     let a = c .before .before .before .args in
     rw (c .before .enum-told3 .given .1, eq-eqb (a .position) (a .size) (omega arith))
-
-enum-told-4 : tie.Need-enum-told-4
-enum-told-4 c = search needs
 
 returns-4 : tie.Need-returns-4
 returns-4 c =
@@ -60,16 +48,8 @@ returns-8 c =
 pub phase-sound-spec : {M : Type 1} → statement M
 phase-sound-spec =
     tie.close
-    (tie.spec
-    enum-told
+    (tie.spec (λ c. search needs)
     returns
-    enum-told-2
-    returns-2
-    enum-told-3
-    returns-3
-    enum-told-4
-    returns-4
-    returns-5
-    returns-6
-    returns-7
-    returns-8)
+    (λ c. search needs) returns-2
+    (λ c. search needs) returns-3
+    (λ c. search needs) returns-4 returns-5 returns-6 returns-7 returns-8)

@@ -18,44 +18,11 @@ goes-by c p e =
     let is : sound (a .s) ≡ true = sym (c .before .is-sound .ensures) ∙ not-false _ (c .if1 .left) in
     rw is (ap (λ (q : Phase). polled q (a .s) (elapsed (a .time) (a .last))) e)
 
-is-sound-requires : tie.Need-is-sound-requires
-is-sound-requires c κs = search needs
-
-answered-requires : tie.Need-answered-requires
-answered-requires c κs = search needs
-
 returns : tie.Need-returns
 unfolding pollOf
 returns c =
     let unsound : sound (c .before .before .before .args .s) ≡ false = sym (c .before .before .is-sound .ensures) ∙ not-true _ (c .before .if1 .taken) in
     c .answered .ensures ∙ rw unsound
-
-enum-told : tie.Need-enum-told
-enum-told c = search needs
-
-wrapping-sub-u32-requires : tie.Need-wrapping-sub-u32-requires
-wrapping-sub-u32-requires c κs = search needs
-
-started-requires : tie.Need-started-requires
-started-requires c κs = search needs
-
-enum-told-2 : tie.Need-enum-told-2
-enum-told-2 c = search needs
-
-answered-requires-2 : tie.Need-answered-requires-2
-answered-requires-2 c κs = search needs
-
-enum-told-3 : tie.Need-enum-told-3
-enum-told-3 c = search needs
-
-answered-requires-3 : tie.Need-answered-requires-3
-answered-requires-3 c κs = search needs
-
-enum-told-4 : tie.Need-enum-told-4
-enum-told-4 c = search needs
-
-answered-requires-4 : tie.Need-answered-requires-4
-answered-requires-4 c κs = search needs
 
 returns-2 : tie.Need-returns-2
 returns-2 c =
@@ -76,20 +43,9 @@ returns-5 c = c .answered4 .ensures ∙ sym (goes-by (c .before .before .before)
 pub poll-spec : {M : Type 1} → statement M
 poll-spec =
     tie.close
-    (tie.spec
-    is-sound-requires
-    answered-requires
+    (tie.spec (λ c κs. search needs) (λ c κs. search needs)
     returns
-    enum-told
-    wrapping-sub-u32-requires
-    started-requires
-    enum-told-2
-    answered-requires-2
-    enum-told-3
-    answered-requires-3
-    enum-told-4
-    answered-requires-4
-    returns-2
-    returns-3
-    returns-4
-    returns-5)
+    (λ c. search needs) (λ c κs. search needs) (λ c κs. search needs)
+    (λ c. search needs) (λ c κs. search needs)
+    (λ c. search needs) (λ c κs. search needs)
+    (λ c. search needs) (λ c κs. search needs) returns-2 returns-3 returns-4 returns-5)

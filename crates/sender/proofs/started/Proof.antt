@@ -6,24 +6,6 @@ use native.Mathlib.Omega.{arith}
 use Rattle.sender.proofs.started.Statement.{statement}
 use Rattle.sender.proofs.started.Tie as tie
 
-cast-wait : tie.Need-cast-wait
-cast-wait c = search needs
-
-moved-requires : tie.Need-moved-requires
-moved-requires c κs = search needs
-
-symbol-at-requires : tie.Need-symbol-at-requires
-symbol-at-requires c κs = search needs
-
-answered-requires : tie.Need-answered-requires
-answered-requires c κs = search needs
-
-sub-left : tie.Need-sub-left
-sub-left c = search needs
-
-answered-requires-2 : tie.Need-answered-requires-2
-answered-requires-2 c κs = search needs
-
 returns : tie.Need-returns
 returns c =
     let a = c .before .before .before .before .before .args in
@@ -38,12 +20,5 @@ returns-2 c =
 pub started-spec : {M : Type 1} → statement M
 started-spec =
     tie.close
-    (tie.spec
-    cast-wait
-    moved-requires
-    symbol-at-requires
-    answered-requires
-    sub-left
-    answered-requires-2
-    returns
-    returns-2)
+    (tie.spec (λ c. search needs) (λ c κs. search needs) (λ c κs. search needs) (λ c κs. search needs)
+    (λ c. search needs) (λ c κs. search needs) returns returns-2)

@@ -9,12 +9,6 @@ use Rattle.sender.proofs.State.{symbol-first, symbol-later}
 use Rattle.sender.proofs.symbol_at.Statement.{statement}
 use Rattle.sender.proofs.symbol_at.Tie as tie
 
-element-copy-out-result : tie.Need-element-copy-out-result
-element-copy-out-result c = search needs
-
-cast-result : tie.Need-cast-result
-cast-result c = search needs
-
 add-result : tie.Need-add-result
 add-result c =
     let byte : Fits w8 (getD (c .before .before .args .t1 .datagram) 0 0) = search needs in
@@ -22,12 +16,6 @@ add-result c =
 
 returns : tie.Need-returns
 returns c h = sym (rw (c .before .if1 .taken) (symbol-first (c .before .before .args .t1) (search needs)))
-
-element-copy-out-result-2 : tie.Need-element-copy-out-result-2
-element-copy-out-result-2 c = search needs
-
-cast-result-2 : tie.Need-cast-result-2
-cast-result-2 c = search needs
 
 returns-2 : tie.Need-returns-2
 returns-2 c h =
@@ -40,12 +28,5 @@ returns-3 c h = absurd (omega arith)
 pub symbol-at-spec : {M : Type 1} → statement M
 symbol-at-spec =
     tie.close
-    (tie.spec
-    element-copy-out-result
-    cast-result
-    add-result
-    returns
-    element-copy-out-result-2
-    cast-result-2
-    returns-2
-    returns-3)
+    (tie.spec (λ c. search needs) (λ c. search needs) add-result returns (λ c. search needs) (λ c. search needs)
+    returns-2 returns-3)

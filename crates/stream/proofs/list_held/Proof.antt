@@ -7,15 +7,6 @@ use lib.Seq.{take-all, take-length}
 use Rattle.stream.proofs.list_held.Statement.{statement}
 use Rattle.stream.proofs.list_held.Tie as tie
 
-list-first-requires : tie.Need-list-first-requires
-list-first-requires c κs = search needs
-
-same-length : tie.Need-same-length
-same-length c = search needs
-
-same-length-2 : tie.Need-same-length-2
-same-length-2 c = search needs
-
 returns : tie.Need-returns
 returns c =
     let a = c .before .before .before .before .before .before .before .before .before .before .args in
@@ -23,19 +14,11 @@ returns c =
     let all : take (a .filled) s ≡ take (length s) s = take-all (a .filled) s (omega (arith, c .before .before .before .before .before .before .before .if1 .taken)) ∙ sym (take-length s) in
     rw all (c .before .before .before .before .list-first .ensures)
 
-list-first-requires-2 : tie.Need-list-first-requires-2
-list-first-requires-2 c κs = search needs
-
-same-length-3 : tie.Need-same-length-3
-same-length-3 c = search needs
-
-same-length-4 : tie.Need-same-length-4
-same-length-4 c = search needs
-
 returns-2 : tie.Need-returns-2
 returns-2 c = c .before .before .before .before .list-first2 .ensures
 
 pub list-held-spec : {M : Type 1} → statement M
 list-held-spec =
     tie.close
-    (tie.spec list-first-requires same-length same-length-2 returns list-first-requires-2 same-length-3 same-length-4 returns-2)
+    (tie.spec (λ c κs. search needs) (λ c. search needs) (λ c. search needs) returns (λ c κs. search needs)
+    (λ c. search needs) (λ c. search needs) returns-2)

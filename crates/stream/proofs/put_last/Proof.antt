@@ -8,18 +8,6 @@ use Rattle.listing.specs.Walk.{endText}
 use Rattle.stream.proofs.put_last.Statement.{statement}
 use Rattle.stream.proofs.put_last.Tie as tie
 
-end-of-requires : tie.Need-end-of-requires
-end-of-requires c κs = search needs
-
-placed-from-requires : tie.Need-placed-from-requires
-placed-from-requires c κs = search needs
-
-put-end-requires : tie.Need-put-end-requires
-put-end-requires c κs = search needs
-
-same-length : tie.Need-same-length
-same-length c = search needs
-
 returns : tie.Need-returns
 returns c =
     let a = c .before .before .before .before .before .before .before .before .args in
@@ -29,4 +17,5 @@ returns c =
 
 pub put-last-spec : {M : Type 1} → statement M
 put-last-spec =
-    tie.close (tie.spec end-of-requires placed-from-requires put-end-requires same-length returns)
+    tie.close
+    (tie.spec (λ c κs. search needs) (λ c κs. search needs) (λ c κs. search needs) (λ c. search needs) returns)

@@ -22,37 +22,10 @@ refused : (m : Message) (buffer : List ℕ) (at : ℕ) (r : Refusal) → rangeOf
 unfolding writeOf
 refused m buffer at r e = ap (λ (v : Verdict). ruledWrite v (bytesOf m) buffer at) e
 
-range-of-requires : tie.Need-range-of-requires
-range-of-requires c κs = search needs
-
-enum-known-r : tie.Need-enum-known-r
-enum-known-r c = search needs
-
-enum-told : tie.Need-enum-told
-enum-told c = search needs
-
-mul-put : tie.Need-mul-put
-mul-put c = search needs
-
-sub-put : tie.Need-sub-put
-sub-put c = search needs
-
-part-put-start : tie.Need-part-put-start
-part-put-start c = search needs
-
-part-put-end : tie.Need-part-put-end
-part-put-end c = search needs
-
-put-requires : tie.Need-put-requires
-put-requires c κs = search needs
-
 returns : tie.Need-returns
 returns c =
     let a = c .before .before .before .before .before .args in
     sym (refused (a .m) (now (a .buf)) (a .at) _ (sym (c .before .before .before .range-of .ensures) ∙ c .before .r .given .1))
-
-same-length : tie.Need-same-length
-same-length c = search needs
 
 returns-2 : tie.Need-returns-2
 unfolding writeOf
@@ -70,16 +43,5 @@ returns-3 c =
 pub write-spec : {M : Type 1} → statement M
 write-spec =
     tie.close
-    (tie.spec
-    range-of-requires
-    enum-known-r
-    enum-told
-    mul-put
-    sub-put
-    part-put-start
-    part-put-end
-    put-requires
-    returns
-    same-length
-    returns-2
-    returns-3)
+    (tie.spec (λ c κs. search needs) (λ c. search needs) (λ c. search needs) (λ c. search needs) (λ c. search needs)
+    (λ c. search needs) (λ c. search needs) (λ c κs. search needs) returns (λ c. search needs) returns-2 returns-3)

@@ -7,26 +7,11 @@ use Rattle.from_fields.proofs.Places.{within, past}
 use Rattle.from_fields.proofs.numbers.bits_at.Statement.{statement}
 use Rattle.from_fields.proofs.numbers.bits_at.Tie as tie
 
-mul-at : tie.Need-mul-at
-mul-at c = search needs
-
-add-if1 : tie.Need-add-if1
-add-if1 c = search needs
-
 returns : tie.Need-returns
 returns c = let a = c .before .args in sym (past (a .fields .now) (a .i) (omega arith))
 
-shared-slice-read-result : tie.Need-shared-slice-read-result
-shared-slice-read-result c = search needs
-
 cast-result : tie.Need-cast-result
 cast-result c = omega (arith, c .shared-slice-known .given (4 * c .before .before .args .i))
-
-add-result : tie.Need-add-result
-add-result c = search needs
-
-shared-slice-read-result-2 : tie.Need-shared-slice-read-result-2
-shared-slice-read-result-2 c = search needs
 
 cast-result-2 : tie.Need-cast-result-2
 cast-result-2 c = omega (arith, c .before .shared-slice-known .given (4 * c .before .before .before .args .i), c .shared-slice-known2 .given (4 * c .before .before .before .args .i + 1))
@@ -37,12 +22,6 @@ mul-result c = omega (arith, c .before .shared-slice-known .given (4 * c .before
 add-result-2 : tie.Need-add-result-2
 add-result-2 c = omega (arith, c .before .shared-slice-known .given (4 * c .before .before .before .args .i), c .shared-slice-known2 .given (4 * c .before .before .before .args .i + 1))
 
-add-result-3 : tie.Need-add-result-3
-add-result-3 c = search needs
-
-shared-slice-read-result-3 : tie.Need-shared-slice-read-result-3
-shared-slice-read-result-3 c = search needs
-
 cast-result-3 : tie.Need-cast-result-3
 cast-result-3 c = omega (arith, c .before .before .shared-slice-known .given (4 * c .before .before .before .before .args .i), c .before .shared-slice-known2 .given (4 * c .before .before .before .before .args .i + 1), c .shared-slice-known3 .given (4 * c .before .before .before .before .args .i + 2))
 
@@ -51,12 +30,6 @@ mul-result-2 c = omega (arith, c .before .before .shared-slice-known .given (4 *
 
 add-result-4 : tie.Need-add-result-4
 add-result-4 c = omega (arith, c .before .before .shared-slice-known .given (4 * c .before .before .before .before .args .i), c .before .shared-slice-known2 .given (4 * c .before .before .before .before .args .i + 1), c .shared-slice-known3 .given (4 * c .before .before .before .before .args .i + 2))
-
-add-result-5 : tie.Need-add-result-5
-add-result-5 c = search needs
-
-shared-slice-read-result-4 : tie.Need-shared-slice-read-result-4
-shared-slice-read-result-4 c = search needs
 
 cast-result-4 : tie.Need-cast-result-4
 cast-result-4 c = omega (arith, c .before .before .before .shared-slice-known .given (4 * c .before .before .before .before .before .args .i), c .before .before .shared-slice-known2 .given (4 * c .before .before .before .before .before .args .i + 1), c .before .shared-slice-known3 .given (4 * c .before .before .before .before .before .args .i + 2), c .shared-slice-known4 .given (4 * c .before .before .before .before .before .args .i + 3))
@@ -73,25 +46,6 @@ returns-2 c = let a = c .before .before .before .before .before .args in sym (wi
 pub bits-at-spec : {M : Type 1} → statement M
 bits-at-spec =
     tie.close
-    (tie.spec
-    mul-at
-    add-if1
-    returns
-    shared-slice-read-result
-    cast-result
-    add-result
-    shared-slice-read-result-2
-    cast-result-2
-    mul-result
-    add-result-2
-    add-result-3
-    shared-slice-read-result-3
-    cast-result-3
-    mul-result-2
-    add-result-4
-    add-result-5
-    shared-slice-read-result-4
-    cast-result-4
-    mul-result-3
-    add-result-6
-    returns-2)
+    (tie.spec (λ c. search needs) (λ c. search needs) returns (λ c. search needs) cast-result (λ c. search needs)
+    (λ c. search needs) cast-result-2 mul-result add-result-2 (λ c. search needs) (λ c. search needs) cast-result-3
+    mul-result-2 add-result-4 (λ c. search needs) (λ c. search needs) cast-result-4 mul-result-3 add-result-6 returns-2)

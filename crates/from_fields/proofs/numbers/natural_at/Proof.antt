@@ -7,11 +7,8 @@ use borrow.Author.Needs.{needs}
 use Rattle.from_fields.proofs.numbers.natural_at.Statement.{statement}
 use Rattle.from_fields.proofs.numbers.natural_at.Tie as tie
 
-bits-at-requires : tie.Need-bits-at-requires
-bits-at-requires c κs = search needs
-
 returns : tie.Need-returns
 returns c = sym (ofZ-toZ w32 (c .bits-at .result) (record { fits = c .bits-at .ok })) ∙ ap (ofZ w32) (c .bits-at .ensures)
 
 pub natural-at-spec : {M : Type 1} → statement M
-natural-at-spec = tie.close (tie.spec bits-at-requires returns)
+natural-at-spec = tie.close (tie.spec (λ c κs. search needs) returns)

@@ -3,11 +3,8 @@ use borrow.Author.Needs.{needs}
 use Rattle.from_fields.proofs.numbers.on_at.Statement.{statement}
 use Rattle.from_fields.proofs.numbers.on_at.Tie as tie
 
-natural-at-requires : tie.Need-natural-at-requires
-natural-at-requires c κs = search needs
-
 returns : tie.Need-returns
 returns c = rw (c .natural-at .ensures)
 
 pub on-at-spec : {M : Type 1} → statement M
-on-at-spec = tie.close (tie.spec natural-at-requires returns)
+on-at-spec = tie.close (tie.spec (λ c κs. search needs) returns)

@@ -5,14 +5,8 @@ use Rattle.from_fields.proofs.Signs.{handed}
 use Rattle.from_fields.proofs.numbers.signed_at.Statement.{statement}
 use Rattle.from_fields.proofs.numbers.signed_at.Tie as tie
 
-bits-at-requires : tie.Need-bits-at-requires
-bits-at-requires c κs = search needs
-
-with-sign-requires : tie.Need-with-sign-requires
-with-sign-requires c κs = search needs
-
 returns : tie.Need-returns
 returns c = handed (record { sfits = c .with-sign .ok }) (c .with-sign .ensures ∙ c .before .bits-at .ensures)
 
 pub signed-at-spec : {M : Type 1} → statement M
-signed-at-spec = tie.close (tie.spec bits-at-requires with-sign-requires returns)
+signed-at-spec = tie.close (tie.spec (λ c κs. search needs) (λ c κs. search needs) returns)

@@ -12,12 +12,6 @@ use borrow.Author.Needs.{needs}
 use Rattle.from_fields.proofs.numbers.with_sign.Statement.{statement}
 use Rattle.from_fields.proofs.numbers.with_sign.Tie as tie
 
-cast-result : tie.Need-cast-result
-cast-result c = search needs
-
-cast-result-2 : tie.Need-cast-result-2
-cast-result-2 c = search needs
-
 less : (b : ℕ) → 2147483648 ≤ b → b < 4294967296 → pos b -ℤ pos 4294967296 ≡ toZ w32 b
 less b l h = rw (lt-ltb b 4294967296 h, le-ltb b 2147483648 l)
 
@@ -36,9 +30,6 @@ cast-result-3 c =
     let f = toZ-fits w32 b (c .before .fits .bits) in
     rw (lowered b (c .if1 .left) (omega arith), toZ-ofZ w64 (toZ w32 b) (wide (toZ w32 b) f)) f
 
-returns : tie.Need-returns
-returns c = search needs
-
 returns-2 : tie.Need-returns-2
 returns-2 c =
     let b = c .before .args .bits in
@@ -47,4 +38,5 @@ returns-2 c =
 
 pub with-sign-spec : {M : Type 1} → statement M
 with-sign-spec =
-    tie.close (tie.spec cast-result cast-result-2 sub-result cast-result-3 returns returns-2)
+    tie.close
+    (tie.spec (λ c. search needs) (λ c. search needs) sub-result cast-result-3 (λ c. search needs) returns-2)

@@ -53,12 +53,6 @@ stepped c =
           stepped-record (roomy c) (w .1 .result) (w .1 .ensures) (omega (arith, w .3 .left)) (c .before .before .before .before .before .loop-test .taken) (w .6) (w .7) (w .8) (w .9) (w .10) (w .11)
     ]
 
-digit-pairs-requires : tie.Need-digit-pairs-requires Inv-loop μ-loop
-digit-pairs-requires c κs = search needs
-
-is-empty-requires : tie.Need-is-empty-requires Inv-loop μ-loop
-is-empty-requires c κs = search needs
-
 loop-holds : tie.Need-loop-holds Inv-loop μ-loop
 unfolding decimal
 loop-holds c =
@@ -68,9 +62,6 @@ loop-holds c =
 
 sub-if1 : tie.Need-sub-if1 Inv-loop μ-loop
 sub-if1 c = let g = c .before .loop .inv .0 in omega (arith, g .fits, put-length (g .put))
-
-listed-requires : tie.Need-listed-requires Inv-loop μ-loop
-listed-requires c κs = search needs
 
 same-length : tie.Need-same-length Inv-loop μ-loop
 same-length c = put-length (c .before .before .before .loop .inv .0 .put)
@@ -85,18 +76,6 @@ returns c =
 slice-aggregate-gather : tie.Need-slice-aggregate-gather Inv-loop μ-loop
 slice-aggregate-gather c = sym (c .before .before .before .loop .inv .2)
 
-gather-requires : tie.Need-gather-requires Inv-loop μ-loop
-gather-requires c κs = search needs
-
-tally-requires : tie.Need-tally-requires Inv-loop μ-loop
-tally-requires c κs = search needs
-
-hear-record-requires : tie.Need-hear-record-requires Inv-loop μ-loop
-hear-record-requires c κs = search needs
-
-listed-requires-2 : tie.Need-listed-requires-2 Inv-loop μ-loop
-listed-requires-2 c κs = search needs
-
 same-length-2 : tie.Need-same-length-2 Inv-loop μ-loop
 same-length-2 c = put-length (c .before .before .before .before .before .before .before .before .before .before .loop .inv .0 .put)
 
@@ -107,15 +86,6 @@ returns-2 c =
     let g = v .inv .0 in
     let none = c .before .before .before .hear-record .ensures .ends (c .before .if3 .taken) in
     ended g (c .before .before .before .hear-record .result .stop) _ (none lineOf (v .left) (length (now (a .out)) - v .written) (c .before .before .before .before .before .before .before .before .before .loop-test .taken) (omega (arith, c .before .before .before .before .before .before .before .before .if1 .left, put-length (g .put)))) (c .listed2 .ensures)
-
-slice-aggregate-put-entry : tie.Need-slice-aggregate-put-entry Inv-loop μ-loop
-slice-aggregate-put-entry c = search needs
-
-sub-put-entry : tie.Need-sub-put-entry Inv-loop μ-loop
-sub-put-entry c = search needs
-
-part-put-entry-start : tie.Need-part-put-entry-start Inv-loop μ-loop
-part-put-entry-start c = search needs
 
 part-put-entry-end : tie.Need-part-put-entry-end Inv-loop μ-loop
 part-put-entry-end c = let st = stepped (c .before .before .before .before .before) in omega (arith, st .most, st .long)
@@ -155,9 +125,6 @@ loop-again c =
     let short : length text ≤ 512 = entry-short (j .if2 .time) (take (j .if2 .count) (j .if2 .bytes)) (omega (arith, size, st .most)) in
     (went g (j .if2 .used) text (j .if2 .p) _ _ (st .goes) (st .fits) short (roomy j) (rw sub-zero at (e .0)), st .rests, st .long, e .1)
 
-listed-requires-3 : tie.Need-listed-requires-3 Inv-loop μ-loop
-listed-requires-3 c κs = search needs
-
 same-length-3 : tie.Need-same-length-3 Inv-loop μ-loop
 same-length-3 c = put-length (c .before .before .loop .inv .0 .put)
 
@@ -171,33 +138,8 @@ returns-3 c =
 pub list-block-spec : {M : Type 1} → statement M
 list-block-spec =
     tie.close
-    (tie.spec
-    Inv-loop
-    μ-loop
-    digit-pairs-requires
-    is-empty-requires
-    loop-holds
-    sub-if1
-    listed-requires
-    same-length
-    returns
-    slice-aggregate-gather
-    gather-requires
-    tally-requires
-    hear-record-requires
-    listed-requires-2
-    same-length-2
-    returns-2
-    slice-aggregate-put-entry
-    sub-put-entry
-    part-put-entry-start
-    part-put-entry-end
-    put-entry-requires
-    mul-at
-    add-at
-    sub-left
-    loop-less
-    loop-again
-    listed-requires-3
-    same-length-3
-    returns-3)
+    (tie.spec Inv-loop μ-loop (λ c κs. search needs) (λ c κs. search needs) loop-holds sub-if1 (λ c κs. search needs)
+    same-length returns slice-aggregate-gather (λ c κs. search needs) (λ c κs. search needs) (λ c κs. search needs)
+    (λ c κs. search needs) same-length-2 returns-2 (λ c. search needs) (λ c. search needs) (λ c. search needs)
+    part-put-entry-end put-entry-requires mul-at add-at sub-left loop-less loop-again (λ c κs. search needs)
+    same-length-3 returns-3)

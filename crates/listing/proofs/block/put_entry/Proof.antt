@@ -10,9 +10,6 @@ use Rattle.listing.proofs.block.put_entry.Tie as tie
 returns : tie.Need-returns
 returns c = (rw (eq-eqb _ _ (c .if1 .taken)) (put-nothing _ _), c .before .before .before .before .pre .2)
 
-keep-requires : tie.Need-keep-requires
-keep-requires c κs = search needs
-
 put-line-requires : tie.Need-put-line-requires
 put-line-requires c κs =
     let start = c .before .before .before .before .before .before .before .before .before .before in
@@ -31,4 +28,4 @@ returns-2 c = (rw (ne-eqb _ _ (c .before .before .before .before .before .before
 pub put-entry-spec : {M : Type 1} → statement M
 put-entry-spec =
     tie.close
-    (tie.spec returns keep-requires put-line-requires same-length same-length-2 returns-2)
+    (tie.spec returns (λ c κs. search needs) put-line-requires same-length same-length-2 returns-2)

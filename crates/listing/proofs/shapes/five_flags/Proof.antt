@@ -9,9 +9,6 @@ use Rattle.listing.proofs.Spaced.{label-then, label-length}
 use Rattle.listing.proofs.shapes.five_flags.Statement.{statement}
 use Rattle.listing.proofs.shapes.five_flags.Tie as tie
 
-flagged-requires : tie.Need-flagged-requires
-flagged-requires c κs = search needs
-
 put-flags-requires : tie.Need-put-flags-requires
 put-flags-requires c κs =
     let start = c .before .before .before .before .before .before .before in
@@ -34,4 +31,5 @@ same-length c = put-length (returns c)
 
 pub five-flags-spec : {M : Type 1} → statement M
 five-flags-spec =
-    tie.close (tie.spec flagged-requires put-flags-requires put-flags-requires-2 same-length returns)
+    tie.close
+    (tie.spec (λ c κs. search needs) put-flags-requires put-flags-requires-2 same-length returns)

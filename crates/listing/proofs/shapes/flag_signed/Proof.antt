@@ -12,9 +12,6 @@ use Rattle.listing.proofs.Spaced.{label-then, label-length}
 use Rattle.listing.proofs.shapes.flag_signed.Statement.{statement}
 use Rattle.listing.proofs.shapes.flag_signed.Tie as tie
 
-flagged-requires : tie.Need-flagged-requires
-flagged-requires c κs = search needs
-
 put-signed-requires : tie.Need-put-signed-requires
 put-signed-requires c κs =
     let start = c .before .before .before .before .before .before .before in
@@ -31,4 +28,4 @@ same-length : tie.Need-same-length
 same-length c = put-length (returns c)
 
 pub flag-signed-spec : {M : Type 1} → statement M
-flag-signed-spec = tie.close (tie.spec flagged-requires put-signed-requires same-length returns)
+flag-signed-spec = tie.close (tie.spec (λ c κs. search needs) put-signed-requires same-length returns)

@@ -9,9 +9,6 @@ use Rattle.listing.proofs.Spaced.{label-then, label-length}
 use Rattle.listing.proofs.shapes.flagged.Statement.{statement}
 use Rattle.listing.proofs.shapes.flagged.Tie as tie
 
-one-requires : tie.Need-one-requires
-one-requires c κs = search needs
-
 put-flag-requires : tie.Need-put-flag-requires
 put-flag-requires c κs =
     let start = c .before .before .before .before .before .before .before in
@@ -27,4 +24,4 @@ same-length : tie.Need-same-length
 same-length c = put-length (returns c)
 
 pub flagged-spec : {M : Type 1} → statement M
-flagged-spec = tie.close (tie.spec one-requires put-flag-requires same-length returns)
+flagged-spec = tie.close (tie.spec (λ c κs. search needs) put-flag-requires same-length returns)

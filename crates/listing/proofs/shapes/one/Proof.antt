@@ -5,19 +5,13 @@ use Rattle.listing.proofs.Put.{put-then, put-length}
 use Rattle.listing.proofs.shapes.one.Statement.{statement}
 use Rattle.listing.proofs.shapes.one.Tie as tie
 
-put-bytes-requires : tie.Need-put-bytes-requires
-put-bytes-requires c κs = omega arith
-
 put-number-requires : tie.Need-put-number-requires
 put-number-requires c κs =
     let p = c .before .before .before .put-bytes .ensures in
     (c .before .before .before .before .before .before .before .pre .0, omega (arith, p .moved, put-length p))
 
-same-length : tie.Need-same-length
-same-length c = search needs
-
 returns : tie.Need-returns
 returns c = put-then (c .before .before .before .before .before .before .put-bytes .ensures) (c .before .before .put-number .ensures)
 
 pub one-spec : {M : Type 1} → statement M
-one-spec = tie.close (tie.spec put-bytes-requires put-number-requires same-length returns)
+one-spec = tie.close (tie.spec (λ c κs. omega arith) put-number-requires (λ c. search needs) returns)

@@ -8,9 +8,6 @@ use Rattle.listing.proofs.Spaced.{label-then, label-length}
 use Rattle.listing.proofs.shapes.put_flags.Statement.{statement}
 use Rattle.listing.proofs.shapes.put_flags.Tie as tie
 
-put-flag-requires : tie.Need-put-flag-requires
-put-flag-requires c κs = omega arith
-
 put-flag-requires-2 : tie.Need-put-flag-requires-2
 put-flag-requires-2 c κs =
     omega (arith, c .before .before .before .put-flag .ensures .moved, put-length (c .before .before .before .put-flag .ensures), label-length [] (pos (num (c .before .before .before .before .before .before .args .a)) ∷ []))
@@ -24,4 +21,4 @@ same-length : tie.Need-same-length
 same-length c = put-length (returns c)
 
 pub put-flags-spec : {M : Type 1} → statement M
-put-flags-spec = tie.close (tie.spec put-flag-requires put-flag-requires-2 same-length returns)
+put-flags-spec = tie.close (tie.spec (λ c κs. omega arith) put-flag-requires-2 same-length returns)

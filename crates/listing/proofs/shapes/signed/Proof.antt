@@ -8,16 +8,10 @@ use Rattle.listing.proofs.Put.{put-then, put-length}
 use Rattle.listing.proofs.shapes.signed.Statement.{statement}
 use Rattle.listing.proofs.shapes.signed.Tie as tie
 
-put-bytes-requires : tie.Need-put-bytes-requires
-put-bytes-requires c κs = omega arith
-
 put-signed-requires : tie.Need-put-signed-requires
 put-signed-requires c κs =
     let p = c .before .before .before .put-bytes .ensures in
     (c .before .before .before .before .before .before .before .pre .0, omega (arith, p .moved, put-length p))
-
-same-length : tie.Need-same-length
-same-length c = search needs
 
 returns : tie.Need-returns
 returns c =
@@ -26,4 +20,4 @@ returns c =
     put-then (c .before .before .before .before .before .before .put-bytes .ensures) (rw e at (c .before .before .put-signed .ensures))
 
 pub signed-spec : {M : Type 1} → statement M
-signed-spec = tie.close (tie.spec put-bytes-requires put-signed-requires same-length returns)
+signed-spec = tie.close (tie.spec (λ c κs. omega arith) put-signed-requires (λ c. search needs) returns)

@@ -8,9 +8,6 @@ use Rattle.listing.proofs.Spaced.{label-then, label-length}
 use Rattle.listing.proofs.shapes.three.Statement.{statement}
 use Rattle.listing.proofs.shapes.three.Tie as tie
 
-two-requires : tie.Need-two-requires
-two-requires c κs = search needs
-
 put-number-requires : tie.Need-put-number-requires
 put-number-requires c κs =
     let start = c .before .before .before .before .before .before .before in
@@ -26,4 +23,4 @@ same-length : tie.Need-same-length
 same-length c = put-length (returns c)
 
 pub three-spec : {M : Type 1} → statement M
-three-spec = tie.close (tie.spec two-requires put-number-requires same-length returns)
+three-spec = tie.close (tie.spec (λ c κs. search needs) put-number-requires same-length returns)

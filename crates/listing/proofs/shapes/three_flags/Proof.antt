@@ -9,9 +9,6 @@ use Rattle.listing.proofs.Spaced.{label-then, label-length}
 use Rattle.listing.proofs.shapes.three_flags.Statement.{statement}
 use Rattle.listing.proofs.shapes.three_flags.Tie as tie
 
-two-flagged-requires : tie.Need-two-flagged-requires
-two-flagged-requires c κs = search needs
-
 put-flags-requires : tie.Need-put-flags-requires
 put-flags-requires c κs =
     let start = c .before .before .before .before .before .before .before in
@@ -27,4 +24,4 @@ same-length : tie.Need-same-length
 same-length c = put-length (returns c)
 
 pub three-flags-spec : {M : Type 1} → statement M
-three-flags-spec = tie.close (tie.spec two-flagged-requires put-flags-requires same-length returns)
+three-flags-spec = tie.close (tie.spec (λ c κs. search needs) put-flags-requires same-length returns)

@@ -8,9 +8,6 @@ use Rattle.listing.proofs.Spaced.{label-then, label-length}
 use Rattle.listing.proofs.shapes.two.Statement.{statement}
 use Rattle.listing.proofs.shapes.two.Tie as tie
 
-one-requires : tie.Need-one-requires
-one-requires c κs = search needs
-
 put-number-requires : tie.Need-put-number-requires
 put-number-requires c κs =
     let start = c .before .before .before .before .before .before .before in
@@ -26,4 +23,4 @@ same-length : tie.Need-same-length
 same-length c = put-length (returns c)
 
 pub two-spec : {M : Type 1} → statement M
-two-spec = tie.close (tie.spec one-requires put-number-requires same-length returns)
+two-spec = tie.close (tie.spec (λ c κs. search needs) put-number-requires same-length returns)

@@ -9,9 +9,6 @@ use Rattle.listing.proofs.Spaced.{label-then, label-length}
 use Rattle.listing.proofs.shapes.two_flagged.Statement.{statement}
 use Rattle.listing.proofs.shapes.two_flagged.Tie as tie
 
-two-requires : tie.Need-two-requires
-two-requires c κs = search needs
-
 put-flag-requires : tie.Need-put-flag-requires
 put-flag-requires c κs =
     let start = c .before .before .before .before .before .before .before in
@@ -27,4 +24,4 @@ same-length : tie.Need-same-length
 same-length c = put-length (returns c)
 
 pub two-flagged-spec : {M : Type 1} → statement M
-two-flagged-spec = tie.close (tie.spec two-requires put-flag-requires same-length returns)
+two-flagged-spec = tie.close (tie.spec (λ c κs. search needs) put-flag-requires same-length returns)

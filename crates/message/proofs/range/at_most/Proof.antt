@@ -6,9 +6,6 @@ use Rattle.message.specs.declared.Verdict.the-variants.{Refused}
 use Rattle.message.proofs.range.at_most.Statement.{statement}
 use Rattle.message.proofs.range.at_most.Tie as tie
 
-out-of-range-requires : tie.Need-out-of-range-requires
-out-of-range-requires c κs = search needs
-
 returns : tie.Need-returns
 returns c = rw (le-leb _ _ (c .if1 .taken))
 
@@ -16,4 +13,4 @@ returns-2 : tie.Need-returns-2
 returns-2 c = rw (lt-leb _ _ (c .before .if1 .left)) (ap Refused (c .out-of-range .ensures))
 
 pub at-most-spec : {M : Type 1} → statement M
-at-most-spec = tie.close (tie.spec out-of-range-requires returns returns-2)
+at-most-spec = tie.close (tie.spec (λ c κs. search needs) returns returns-2)

@@ -6,17 +6,8 @@ use Rattle.message.specs.Range.{andThen}
 use Rattle.message.proofs.range.first_of.Statement.{statement}
 use Rattle.message.proofs.range.first_of.Tie as tie
 
-enum-told : tie.Need-enum-told
-enum-told c = search needs
-
-enum-known-first : tie.Need-enum-known-first
-enum-known-first c = search needs
-
-returns : tie.Need-returns
-returns c = search needs
-
 returns-2 : tie.Need-returns-2
 returns-2 c = sym (ap (λ (v : Verdict). andThen v (c .before .before .before .args .later)) (c .before .first .given .1))
 
 pub first-of-spec : {M : Type 1} → statement M
-first-of-spec = tie.close (tie.spec enum-told enum-known-first returns returns-2)
+first-of-spec = tie.close (tie.spec (λ c. search needs) (λ c. search needs) (λ c. search needs) returns-2)

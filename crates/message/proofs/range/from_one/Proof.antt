@@ -7,17 +7,11 @@ use Rattle.message.specs.declared.Verdict.the-variants.{Refused}
 use Rattle.message.proofs.range.from_one.Statement.{statement}
 use Rattle.message.proofs.range.from_one.Tie as tie
 
-out-of-range-requires : tie.Need-out-of-range-requires
-out-of-range-requires c κs = search needs
-
 returns : tie.Need-returns
 returns c = rw (lt-leb 1 (c .before .before .args .n) (omega arith)) (ap Refused (c .out-of-range .ensures))
-
-at-most-requires : tie.Need-at-most-requires
-at-most-requires c κs = search needs
 
 returns-2 : tie.Need-returns-2
 returns-2 c = rw (le-leb 1 (c .before .before .args .n) (omega arith)) (c .at-most .ensures)
 
 pub from-one-spec : {M : Type 1} → statement M
-from-one-spec = tie.close (tie.spec out-of-range-requires returns at-most-requires returns-2)
+from-one-spec = tie.close (tie.spec (λ c κs. search needs) returns (λ c κs. search needs) returns-2)

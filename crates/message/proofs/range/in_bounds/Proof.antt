@@ -7,12 +7,6 @@ use Rattle.message.specs.declared.Verdict.the-variants.{Refused}
 use Rattle.message.proofs.range.in_bounds.Statement.{statement}
 use Rattle.message.proofs.range.in_bounds.Tie as tie
 
-out-of-range-requires : tie.Need-out-of-range-requires
-out-of-range-requires c κs = search needs
-
-out-of-range-requires-2 : tie.Need-out-of-range-requires-2
-out-of-range-requires-2 c κs = search needs
-
 returns : tie.Need-returns
 returns c =
     let a = c .before .before .args in
@@ -38,6 +32,4 @@ returns-3 c =
     rw (le-read (a .low) (a .z) false (f .low) (f .z) (c .before .if1 .left)) (ap Refused (c .out-of-range2 .ensures))
 
 pub in-bounds-spec : {M : Type 1} → statement M
-in-bounds-spec =
-    tie.close
-    (tie.spec out-of-range-requires out-of-range-requires-2 returns returns-2 returns-3)
+in-bounds-spec = tie.close (tie.spec (λ c κs. search needs) (λ c κs. search needs) returns returns-2 returns-3)

@@ -8,192 +8,6 @@ use Rattle.message.specs.Range.{rangeOf, andThen, within}
 use Rattle.message.proofs.range.range_of.Statement.{statement}
 use Rattle.message.proofs.range.range_of.Tie as tie
 
-enum-known-m : tie.Need-enum-known-m
-enum-known-m c = search needs
-
-at-most-requires : tie.Need-at-most-requires
-at-most-requires c κs = search needs
-
-enum-known-m-2 : tie.Need-enum-known-m-2
-enum-known-m-2 c = search needs
-
-at-most-requires-2 : tie.Need-at-most-requires-2
-at-most-requires-2 c κs = search needs
-
-enum-known-m-3 : tie.Need-enum-known-m-3
-enum-known-m-3 c = search needs
-
-at-most-requires-3 : tie.Need-at-most-requires-3
-at-most-requires-3 c κs = search needs
-
-enum-known-m-4 : tie.Need-enum-known-m-4
-enum-known-m-4 c = search needs
-
-at-most-requires-4 : tie.Need-at-most-requires-4
-at-most-requires-4 c κs = search needs
-
-enum-known-m-5 : tie.Need-enum-known-m-5
-enum-known-m-5 c = search needs
-
-at-most-requires-5 : tie.Need-at-most-requires-5
-at-most-requires-5 c κs = search needs
-
-enum-known-m-6 : tie.Need-enum-known-m-6
-enum-known-m-6 c = search needs
-
-at-most-requires-6 : tie.Need-at-most-requires-6
-at-most-requires-6 c κs = search needs
-
-enum-known-m-7 : tie.Need-enum-known-m-7
-enum-known-m-7 c = search needs
-
-at-most-requires-7 : tie.Need-at-most-requires-7
-at-most-requires-7 c κs = search needs
-
-at-most-requires-8 : tie.Need-at-most-requires-8
-at-most-requires-8 c κs = search needs
-
-first-of-requires : tie.Need-first-of-requires
-first-of-requires c κs = search needs
-
-enum-known-m-8 : tie.Need-enum-known-m-8
-enum-known-m-8 c = search needs
-
-at-most-requires-9 : tie.Need-at-most-requires-9
-at-most-requires-9 c κs = search needs
-
-at-most-requires-10 : tie.Need-at-most-requires-10
-at-most-requires-10 c κs = search needs
-
-first-of-requires-2 : tie.Need-first-of-requires-2
-first-of-requires-2 c κs = search needs
-
-enum-known-m-9 : tie.Need-enum-known-m-9
-enum-known-m-9 c = search needs
-
-in-bounds-requires : tie.Need-in-bounds-requires
-in-bounds-requires c κs = search needs
-
-enum-known-m-10 : tie.Need-enum-known-m-10
-enum-known-m-10 c = search needs
-
-at-most-requires-11 : tie.Need-at-most-requires-11
-at-most-requires-11 c κs = search needs
-
-enum-known-m-11 : tie.Need-enum-known-m-11
-enum-known-m-11 c = search needs
-
-at-most-requires-12 : tie.Need-at-most-requires-12
-at-most-requires-12 c κs = search needs
-
-at-most-requires-13 : tie.Need-at-most-requires-13
-at-most-requires-13 c κs = search needs
-
-first-of-requires-3 : tie.Need-first-of-requires-3
-first-of-requires-3 c κs = search needs
-
-enum-known-m-12 : tie.Need-enum-known-m-12
-enum-known-m-12 c = search needs
-
-at-most-requires-14 : tie.Need-at-most-requires-14
-at-most-requires-14 c κs = search needs
-
-at-most-requires-15 : tie.Need-at-most-requires-15
-at-most-requires-15 c κs = search needs
-
-first-of-requires-4 : tie.Need-first-of-requires-4
-first-of-requires-4 c κs = search needs
-
-enum-known-m-13 : tie.Need-enum-known-m-13
-enum-known-m-13 c = search needs
-
-at-most-requires-16 : tie.Need-at-most-requires-16
-at-most-requires-16 c κs = search needs
-
-enum-known-m-14 : tie.Need-enum-known-m-14
-enum-known-m-14 c = search needs
-
-at-most-requires-17 : tie.Need-at-most-requires-17
-at-most-requires-17 c κs = search needs
-
-enum-known-m-15 : tie.Need-enum-known-m-15
-enum-known-m-15 c = search needs
-
-at-most-requires-18 : tie.Need-at-most-requires-18
-at-most-requires-18 c κs = search needs
-
-at-most-requires-19 : tie.Need-at-most-requires-19
-at-most-requires-19 c κs = search needs
-
-at-most-requires-20 : tie.Need-at-most-requires-20
-at-most-requires-20 c κs = search needs
-
-first-of-requires-5 : tie.Need-first-of-requires-5
-first-of-requires-5 c κs = search needs
-
-first-of-requires-6 : tie.Need-first-of-requires-6
-first-of-requires-6 c κs = search needs
-
-enum-known-m-16 : tie.Need-enum-known-m-16
-enum-known-m-16 c = search needs
-
-from-one-requires : tie.Need-from-one-requires
-from-one-requires c κs = search needs
-
-from-one-requires-2 : tie.Need-from-one-requires-2
-from-one-requires-2 c κs = search needs
-
-at-most-requires-21 : tie.Need-at-most-requires-21
-at-most-requires-21 c κs = search needs
-
-first-of-requires-7 : tie.Need-first-of-requires-7
-first-of-requires-7 c κs = search needs
-
-first-of-requires-8 : tie.Need-first-of-requires-8
-first-of-requires-8 c κs = search needs
-
-enum-known-m-17 : tie.Need-enum-known-m-17
-enum-known-m-17 c = search needs
-
-at-most-requires-22 : tie.Need-at-most-requires-22
-at-most-requires-22 c κs = search needs
-
-at-most-requires-23 : tie.Need-at-most-requires-23
-at-most-requires-23 c κs = search needs
-
-first-of-requires-9 : tie.Need-first-of-requires-9
-first-of-requires-9 c κs = search needs
-
-enum-known-m-18 : tie.Need-enum-known-m-18
-enum-known-m-18 c = search needs
-
-at-most-requires-24 : tie.Need-at-most-requires-24
-at-most-requires-24 c κs = search needs
-
-at-most-requires-25 : tie.Need-at-most-requires-25
-at-most-requires-25 c κs = search needs
-
-first-of-requires-10 : tie.Need-first-of-requires-10
-first-of-requires-10 c κs = search needs
-
-enum-known-m-19 : tie.Need-enum-known-m-19
-enum-known-m-19 c = search needs
-
-in-bounds-requires-2 : tie.Need-in-bounds-requires-2
-in-bounds-requires-2 c κs = search needs
-
-enum-known-m-20 : tie.Need-enum-known-m-20
-enum-known-m-20 c = search needs
-
-at-most-requires-26 : tie.Need-at-most-requires-26
-at-most-requires-26 c κs = search needs
-
-in-bounds-requires-3 : tie.Need-in-bounds-requires-3
-in-bounds-requires-3 c κs = search needs
-
-first-of-requires-11 : tie.Need-first-of-requires-11
-first-of-requires-11 c κs = search needs
-
 returns : tie.Need-returns
 unfolding rangeOf
 returns c = c .at-most .ensures ∙ sym (ap rangeOf (c .before .before .m .given .1))
@@ -288,86 +102,27 @@ returns-20 c =
 pub range-of-spec : {M : Type 1} → statement M
 range-of-spec =
     tie.close
-    (tie.spec
-    enum-known-m
-    at-most-requires
-    enum-known-m-2
-    at-most-requires-2
-    enum-known-m-3
-    at-most-requires-3
-    enum-known-m-4
-    at-most-requires-4
-    enum-known-m-5
-    at-most-requires-5
-    enum-known-m-6
-    at-most-requires-6
-    enum-known-m-7
-    at-most-requires-7
-    at-most-requires-8
-    first-of-requires
-    enum-known-m-8
-    at-most-requires-9
-    at-most-requires-10
-    first-of-requires-2
-    enum-known-m-9
-    in-bounds-requires
-    enum-known-m-10
-    at-most-requires-11
-    enum-known-m-11
-    at-most-requires-12
-    at-most-requires-13
-    first-of-requires-3
-    enum-known-m-12
-    at-most-requires-14
-    at-most-requires-15
-    first-of-requires-4
-    enum-known-m-13
-    at-most-requires-16
-    enum-known-m-14
-    at-most-requires-17
-    enum-known-m-15
-    at-most-requires-18
-    at-most-requires-19
-    at-most-requires-20
-    first-of-requires-5
-    first-of-requires-6
-    enum-known-m-16
-    from-one-requires
-    from-one-requires-2
-    at-most-requires-21
-    first-of-requires-7
-    first-of-requires-8
-    enum-known-m-17
-    at-most-requires-22
-    at-most-requires-23
-    first-of-requires-9
-    enum-known-m-18
-    at-most-requires-24
-    at-most-requires-25
-    first-of-requires-10
-    enum-known-m-19
-    in-bounds-requires-2
-    enum-known-m-20
-    at-most-requires-26
-    in-bounds-requires-3
-    first-of-requires-11
-    returns
-    returns-2
-    returns-3
-    returns-4
-    returns-5
-    returns-6
-    returns-7
-    returns-8
-    returns-9
-    returns-10
-    returns-11
-    returns-12
-    returns-13
-    returns-14
-    returns-15
-    returns-16
-    returns-17
-    returns-18
-    returns-19
-    returns-20)
+    (tie.spec (λ c. search needs) (λ c κs. search needs)
+    (λ c. search needs) (λ c κs. search needs)
+    (λ c. search needs) (λ c κs. search needs)
+    (λ c. search needs) (λ c κs. search needs)
+    (λ c. search needs) (λ c κs. search needs)
+    (λ c. search needs) (λ c κs. search needs)
+    (λ c. search needs) (λ c κs. search needs) (λ c κs. search needs) (λ c κs. search needs)
+    (λ c. search needs) (λ c κs. search needs) (λ c κs. search needs) (λ c κs. search needs)
+    (λ c. search needs) (λ c κs. search needs)
+    (λ c. search needs) (λ c κs. search needs)
+    (λ c. search needs) (λ c κs. search needs) (λ c κs. search needs) (λ c κs. search needs)
+    (λ c. search needs) (λ c κs. search needs) (λ c κs. search needs) (λ c κs. search needs)
+    (λ c. search needs) (λ c κs. search needs)
+    (λ c. search needs) (λ c κs. search needs)
+    (λ c. search needs) (λ c κs. search needs) (λ c κs. search needs) (λ c κs. search needs) (λ c κs. search needs)
+    (λ c κs. search needs)
+    (λ c. search needs) (λ c κs. search needs) (λ c κs. search needs) (λ c κs. search needs) (λ c κs. search needs)
+    (λ c κs. search needs)
+    (λ c. search needs) (λ c κs. search needs) (λ c κs. search needs) (λ c κs. search needs)
+    (λ c. search needs) (λ c κs. search needs) (λ c κs. search needs) (λ c κs. search needs)
+    (λ c. search needs) (λ c κs. search needs)
+    (λ c. search needs) (λ c κs. search needs) (λ c κs. search needs) (λ c κs. search needs)
+    returns returns-2 returns-3 returns-4 returns-5 returns-6 returns-7 returns-8 returns-9 returns-10 returns-11
+    returns-12 returns-13 returns-14 returns-15 returns-16 returns-17 returns-18 returns-19 returns-20)

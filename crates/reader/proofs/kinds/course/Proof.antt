@@ -10,12 +10,6 @@ use Rattle.reader.proofs.Limits.{half-fits}
 use Rattle.reader.proofs.kinds.course.Statement.{statement}
 use Rattle.reader.proofs.kinds.course.Tie as tie
 
-half-angle-requires : tie.Need-half-angle-requires
-half-angle-requires c κs = search needs
-
-out-of-range-requires : tie.Need-out-of-range-requires
-out-of-range-requires c κs = search needs
-
 returns : tie.Need-returns
 unfolding rangeOf
 returns c =
@@ -30,4 +24,4 @@ returns-2 : tie.Need-returns-2
 returns-2 c = rw (lt-leb _ _ (c .before .if1 .left)) (ap Refused (c .out-of-range .ensures))
 
 pub course-spec : {M : Type 1} → statement M
-course-spec = tie.close (tie.spec half-angle-requires out-of-range-requires returns returns-2)
+course-spec = tie.close (tie.spec (λ c κs. search needs) (λ c κs. search needs) returns returns-2)

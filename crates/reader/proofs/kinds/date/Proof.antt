@@ -14,15 +14,9 @@ use Rattle.reader.proofs.kinds.date.Tie as tie
 from-one : (limit n : ℕ) → 1 ≤ n → n ≤ limit → (leb 1 n && leb n limit) ≡ true
 from-one limit n low high = rw (le-leb 1 n low, le-leb n limit high)
 
-out-of-range-requires : tie.Need-out-of-range-requires
-out-of-range-requires c κs = search needs
-
 returns : tie.Need-returns
 unfolding rangeOf
 returns c = rw (lt-leb 1 (c .before .before .args .m1 / 16) (omega arith)) (ap Refused (c .out-of-range .ensures))
-
-out-of-range-requires-2 : tie.Need-out-of-range-requires-2
-out-of-range-requires-2 c κs = search needs
 
 returns-2 : tie.Need-returns-2
 unfolding rangeOf
@@ -30,17 +24,11 @@ returns-2 c =
     let a = c .before .before .before .args in
     rw (le-leb 1 (a .m1 / 16) (omega arith), lt-leb (a .m1 / 16) 12 (omega arith)) (ap Refused (c .out-of-range2 .ensures))
 
-out-of-range-requires-3 : tie.Need-out-of-range-requires-3
-out-of-range-requires-3 c κs = search needs
-
 returns-3 : tie.Need-returns-3
 unfolding rangeOf
 returns-3 c =
     let a = c .before .before .before .before .args in
     rw (from-one 12 (a .m1 / 16) (omega arith) (omega arith), lt-leb 1 (a .dd) (omega arith)) (ap Refused (c .out-of-range3 .ensures))
-
-out-of-range-requires-4 : tie.Need-out-of-range-requires-4
-out-of-range-requires-4 c κs = search needs
 
 returns-4 : tie.Need-returns-4
 unfolding rangeOf
@@ -51,9 +39,6 @@ returns-4 c =
       le-leb 1 (a .dd) (omega arith),
       lt-leb (a .dd) 31 (omega arith),
     ) (ap Refused (c .out-of-range4 .ensures))
-
-out-of-range-requires-5 : tie.Need-out-of-range-requires-5
-out-of-range-requires-5 c κs = search needs
 
 returns-5 : tie.Need-returns-5
 unfolding rangeOf
@@ -78,15 +63,5 @@ returns-6 c =
 pub date-spec : {M : Type 1} → statement M
 date-spec =
     tie.close
-    (tie.spec
-    out-of-range-requires
-    returns
-    out-of-range-requires-2
-    returns-2
-    out-of-range-requires-3
-    returns-3
-    out-of-range-requires-4
-    returns-4
-    out-of-range-requires-5
-    returns-5
-    returns-6)
+    (tie.spec (λ c κs. search needs) returns (λ c κs. search needs) returns-2 (λ c κs. search needs) returns-3
+    (λ c κs. search needs) returns-4 (λ c κs. search needs) returns-5 returns-6)

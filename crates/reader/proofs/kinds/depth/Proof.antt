@@ -6,12 +6,9 @@ use Rattle.reader.proofs.Limits.{word-fits}
 use Rattle.reader.proofs.kinds.depth.Statement.{statement}
 use Rattle.reader.proofs.kinds.depth.Tie as tie
 
-word-of-requires : tie.Need-word-of-requires
-word-of-requires c κs = search needs
-
 returns : tie.Need-returns
 unfolding rangeOf
 returns c = rw (c .word-of .ensures, word-fits (c .before .fits .low) (c .before .fits .high)) refl
 
 pub depth-spec : {M : Type 1} → statement M
-depth-spec = tie.close (tie.spec word-of-requires returns)
+depth-spec = tie.close (tie.spec (λ c κs. search needs) returns)

@@ -10,26 +10,11 @@ use Rattle.reader.proofs.Limits.{half-fits}
 use Rattle.reader.proofs.kinds.heading.Statement.{statement}
 use Rattle.reader.proofs.kinds.heading.Tie as tie
 
-out-of-range-requires : tie.Need-out-of-range-requires
-out-of-range-requires c κs = search needs
-
 returns : tie.Need-returns
 returns c = rw (lt-leb (c .before .before .args .vw % 64) 44 (omega arith)) (ap Refused (c .out-of-range .ensures))
 
-out-of-range-requires-2 : tie.Need-out-of-range-requires-2
-out-of-range-requires-2 c κs = search needs
-
 returns-2 : tie.Need-returns-2
 returns-2 c = rw (le-leb (c .before .before .before .args .vw % 64) 44 (omega arith), lt-leb (c .before .before .before .args .xy) 179 (omega arith)) (ap Refused (c .out-of-range2 .ensures))
-
-half-angle-requires : tie.Need-half-angle-requires
-half-angle-requires c κs = search needs
-
-mul-t13 : tie.Need-mul-t13
-mul-t13 c = search needs
-
-add-t15 : tie.Need-add-t15
-add-t15 c = search needs
 
 returns-3 : tie.Need-returns-3
 unfolding rangeOf
@@ -46,12 +31,5 @@ returns-3 c =
 pub heading-spec : {M : Type 1} → statement M
 heading-spec =
     tie.close
-    (tie.spec
-    out-of-range-requires
-    returns
-    out-of-range-requires-2
-    returns-2
-    half-angle-requires
-    mul-t13
-    add-t15
-    returns-3)
+    (tie.spec (λ c κs. search needs) returns (λ c κs. search needs) returns-2 (λ c κs. search needs) (λ c. search needs)
+    (λ c. search needs) returns-3)

@@ -7,9 +7,6 @@ use Rattle.message.specs.Range.{rangeOf}
 use Rattle.reader.proofs.kinds.key.Statement.{statement}
 use Rattle.reader.proofs.kinds.key.Tie as tie
 
-add-if1 : tie.Need-add-if1
-add-if1 c = search needs
-
 returns : tie.Need-returns
 unfolding rangeOf
 returns c =
@@ -24,4 +21,4 @@ returns-2 : tie.Need-returns-2
 returns-2 c = rw (ne-eqb (c .before .args .code + c .before .args .repeat) 255 (λ e. omega (arith, c .if1 .left)))
 
 pub key-spec : {M : Type 1} → statement M
-key-spec = tie.close (tie.spec add-if1 returns returns-2)
+key-spec = tie.close (tie.spec (λ c. search needs) returns returns-2)

@@ -9,9 +9,6 @@ use Rattle.message.specs.Range.{rangeOf}
 use Rattle.reader.proofs.kinds.lamp.Statement.{statement}
 use Rattle.reader.proofs.kinds.lamp.Tie as tie
 
-out-of-range-requires : tie.Need-out-of-range-requires
-out-of-range-requires c κs = search needs
-
 returns : tie.Need-returns
 unfolding rangeOf
 returns c = rw (eq-eqb _ _ (c .if1 .taken), le-leb (c .before .args .x % 16 / 4) 3 (omega arith))
@@ -20,4 +17,4 @@ returns-2 : tie.Need-returns-2
 returns-2 c = rw (ne-eqb _ _ (c .before .if1 .left)) (ap Refused (c .out-of-range .ensures))
 
 pub lamp-spec : {M : Type 1} → statement M
-lamp-spec = tie.close (tie.spec out-of-range-requires returns returns-2)
+lamp-spec = tie.close (tie.spec (λ c κs. search needs) returns returns-2)

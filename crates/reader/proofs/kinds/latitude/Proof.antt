@@ -10,18 +10,9 @@ use Rattle.message.specs.Range.{rangeOf}
 use Rattle.reader.proofs.kinds.latitude.Statement.{statement}
 use Rattle.reader.proofs.kinds.latitude.Tie as tie
 
-word-of-requires : tie.Need-word-of-requires
-word-of-requires c κs = search needs
-
-out-of-range-requires : tie.Need-out-of-range-requires
-out-of-range-requires c κs = search needs
-
 returns : tie.Need-returns
 unfolding rangeOf
 returns c = rw (lt-leb (c .before .before .before .args .xx) 90 (omega arith)) (ap Refused (c .out-of-range .ensures))
-
-out-of-range-requires-2 : tie.Need-out-of-range-requires-2
-out-of-range-requires-2 c κs = search needs
 
 returns-2 : tie.Need-returns-2
 unfolding rangeOf
@@ -45,10 +36,4 @@ returns-3 c =
 pub latitude-spec : {M : Type 1} → statement M
 latitude-spec =
     tie.close
-    (tie.spec
-    word-of-requires
-    out-of-range-requires
-    returns
-    out-of-range-requires-2
-    returns-2
-    returns-3)
+    (tie.spec (λ c κs. search needs) (λ c κs. search needs) returns (λ c κs. search needs) returns-2 returns-3)

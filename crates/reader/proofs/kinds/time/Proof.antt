@@ -9,30 +9,15 @@ use Rattle.message.specs.Range.{rangeOf}
 use Rattle.reader.proofs.kinds.time.Statement.{statement}
 use Rattle.reader.proofs.kinds.time.Tie as tie
 
-mul-seconds : tie.Need-mul-seconds
-mul-seconds c = search needs
-
-add-seconds : tie.Need-add-seconds
-add-seconds c = search needs
-
-out-of-range-requires : tie.Need-out-of-range-requires
-out-of-range-requires c κs = search needs
-
 returns : tie.Need-returns
 unfolding rangeOf
 returns c = rw (lt-leb (c .before .before .args .hh) 23 (omega arith)) (ap Refused (c .out-of-range .ensures))
-
-out-of-range-requires-2 : tie.Need-out-of-range-requires-2
-out-of-range-requires-2 c κs = search needs
 
 returns-2 : tie.Need-returns-2
 unfolding rangeOf
 returns-2 c =
     let a = c .before .before .before .args in
     rw (le-leb (a .hh) 23 (omega arith), lt-leb (a .rs / 4) 59 (omega arith)) (ap Refused (c .out-of-range2 .ensures))
-
-out-of-range-requires-3 : tie.Need-out-of-range-requires-3
-out-of-range-requires-3 c κs = search needs
 
 returns-3 : tie.Need-returns-3
 unfolding rangeOf
@@ -57,13 +42,5 @@ returns-4 c =
 pub time-spec : {M : Type 1} → statement M
 time-spec =
     tie.close
-    (tie.spec
-    mul-seconds
-    add-seconds
-    out-of-range-requires
-    returns
-    out-of-range-requires-2
-    returns-2
-    out-of-range-requires-3
-    returns-3
-    returns-4)
+    (tie.spec (λ c. search needs) (λ c. search needs) (λ c κs. search needs) returns (λ c κs. search needs) returns-2
+    (λ c κs. search needs) returns-3 returns-4)

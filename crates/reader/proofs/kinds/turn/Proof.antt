@@ -17,18 +17,6 @@ use Rattle.reader.proofs.Limits.{each-byte}
 use Rattle.reader.proofs.kinds.turn.Statement.{statement}
 use Rattle.reader.proofs.kinds.turn.Tie as tie
 
-whole-angle-requires : tie.Need-whole-angle-requires
-whole-angle-requires c κs = search needs
-
-turns-right-requires : tie.Need-turns-right-requires
-turns-right-requires c κs = search needs
-
-signed-byte-requires : tie.Need-signed-byte-requires
-signed-byte-requires c κs = search needs
-
-out-of-range-requires : tie.Need-out-of-range-requires
-out-of-range-requires c κs = search needs
-
 returns : tie.Need-returns
 unfolding rangeOf
 returns c =
@@ -49,10 +37,5 @@ returns-2 c = rw (lt-leb _ _ (c .before .if1 .left)) (ap Refused (c .out-of-rang
 pub turn-spec : {M : Type 1} → statement M
 turn-spec =
     tie.close
-    (tie.spec
-    whole-angle-requires
-    turns-right-requires
-    signed-byte-requires
-    out-of-range-requires
-    returns
+    (tie.spec (λ c κs. search needs) (λ c κs. search needs) (λ c κs. search needs) (λ c κs. search needs) returns
     returns-2)

@@ -12,9 +12,6 @@ use Rattle.reader.proofs.Limits.{each-byte}
 use Rattle.reader.proofs.kinds.variation.Statement.{statement}
 use Rattle.reader.proofs.kinds.variation.Tie as tie
 
-negated-byte-requires : tie.Need-negated-byte-requires
-negated-byte-requires c κs = search needs
-
 returns : tie.Need-returns
 unfolding rangeOf
 returns c =
@@ -25,4 +22,4 @@ returns c =
     )
 
 pub variation-spec : {M : Type 1} → statement M
-variation-spec = tie.close (tie.spec negated-byte-requires returns)
+variation-spec = tie.close (tie.spec (λ c κs. search needs) returns)

@@ -26,15 +26,6 @@ passes w h = go (ltb w 100) refl
     go true e = rw (e, le-leb (100 - suc w) 99 (omega arith))
     go false e = rw (e, le-leb (w - 100) 65435 (omega arith))
 
-mul-difference : tie.Need-mul-difference
-mul-difference c = search needs
-
-add-difference : tie.Need-add-difference
-add-difference c = search needs
-
-difference-requires : tie.Need-difference-requires
-difference-requires c κs = search needs
-
 returns : tie.Need-returns
 unfolding rangeOf
 returns c =
@@ -43,4 +34,4 @@ returns c =
     rw (tenths, passes (word (a .low) (a .high)) (omega arith))
 
 pub water-spec : {M : Type 1} → statement M
-water-spec = tie.close (tie.spec mul-difference add-difference difference-requires returns)
+water-spec = tie.close (tie.spec (λ c. search needs) (λ c. search needs) (λ c κs. search needs) returns)

@@ -9,15 +9,6 @@ use Rattle.message.specs.Range.{rangeOf}
 use Rattle.reader.proofs.kinds.wind_angle.Statement.{statement}
 use Rattle.reader.proofs.kinds.wind_angle.Tie as tie
 
-mul-halves : tie.Need-mul-halves
-mul-halves c = search needs
-
-add-halves : tie.Need-add-halves
-add-halves c = search needs
-
-out-of-range-requires : tie.Need-out-of-range-requires
-out-of-range-requires c κs = search needs
-
 returns : tie.Need-returns
 unfolding rangeOf
 returns c =
@@ -29,5 +20,4 @@ unfolding rangeOf
 returns-2 c = rw (le-leb (256 * c .before .args .xx + c .before .args .yy) 719 (omega arith))
 
 pub wind-angle-spec : {M : Type 1} → statement M
-wind-angle-spec =
-    tie.close (tie.spec mul-halves add-halves out-of-range-requires returns returns-2)
+wind-angle-spec = tie.close (tie.spec (λ c. search needs) (λ c. search needs) (λ c κs. search needs) returns returns-2)

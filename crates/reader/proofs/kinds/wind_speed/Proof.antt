@@ -9,15 +9,6 @@ use Rattle.message.specs.Range.{rangeOf}
 use Rattle.reader.proofs.kinds.wind_speed.Statement.{statement}
 use Rattle.reader.proofs.kinds.wind_speed.Tie as tie
 
-mul-t8 : tie.Need-mul-t8
-mul-t8 c = search needs
-
-add-t11 : tie.Need-add-t11
-add-t11 c = search needs
-
-out-of-range-requires : tie.Need-out-of-range-requires
-out-of-range-requires c κs = search needs
-
 returns : tie.Need-returns
 unfolding rangeOf
 returns c =
@@ -28,4 +19,4 @@ returns-2 : tie.Need-returns-2
 returns-2 c = rw (lt-leb _ _ (c .before .if1 .left)) (ap Refused (c .out-of-range .ensures))
 
 pub wind-speed-spec : {M : Type 1} → statement M
-wind-speed-spec = tie.close (tie.spec mul-t8 add-t11 out-of-range-requires returns returns-2)
+wind-speed-spec = tie.close (tie.spec (λ c. search needs) (λ c. search needs) (λ c κs. search needs) returns returns-2)

@@ -10,30 +10,12 @@ use Rattle.seatalk.proofs.Kept.{one-longer}
 use Rattle.seatalk.proofs.hear.answer.Statement.{statement}
 use Rattle.seatalk.proofs.hear.answer.Tie as tie
 
-number-of-requires : tie.Need-number-of-requires
-number-of-requires c κs = search needs
-
-enum-known-r : tie.Need-enum-known-r
-enum-known-r c = search needs
-
-code-of-requires : tie.Need-code-of-requires
-code-of-requires c κs = search needs
-
-enum-known-number : tie.Need-enum-known-number
-enum-known-number c = search needs
-
-code-of-requires-2 : tie.Need-code-of-requires-2
-code-of-requires-2 c κs = search needs
-
 returns : tie.Need-returns
 returns c =
     let w = c .before .before .before .before .before in
     let a = w .before .before .before .args in
     let e : numberOf (a .h .answer) ≡ Number _ = sym (w .number-of .ensures) ∙ c .before .before .before .number .given .1 in
     rw (handed (record { sfits = c .code-of2 .ok }) (c .code-of2 .ensures), e, lt-leb 20 (length (a .result .now)) (c .before .if1 .taken))
-
-cast-put-next : tie.Need-cast-put-next
-cast-put-next c = search needs
 
 put-next-requires : tie.Need-put-next-requires
 put-next-requires c κs =
@@ -42,21 +24,12 @@ put-next-requires c κs =
     let p = w .before .before .before .pre in
     (p .0, λ e. rw (p .1) (one-longer (a .state .now) (a .symbol) (p .0) (rw (p .1, e) at (sym (w .number-of .ensures) ∙ c .before .before .before .before .number .given .1))))
 
-put-result-requires : tie.Need-put-result-requires
-put-result-requires c κs = search needs
-
 returns-2 : tie.Need-returns-2
 returns-2 c =
     let w = c .before .before .before .before in
     let a = w .before .before .before .args in
     let e : numberOf (a .h .answer) ≡ Refused _ = sym (w .number-of .ensures) ∙ c .before .before .r .given .1 in
     rw (handed (record { sfits = c .code-of .ok }) (c .code-of .ensures), e)
-
-same-length : tie.Need-same-length
-same-length c = search needs
-
-same-length-2 : tie.Need-same-length-2
-same-length-2 c = search needs
 
 returns-3 : tie.Need-returns-3
 returns-3 c =
@@ -68,17 +41,6 @@ returns-3 c =
 pub answer-spec : {M : Type 1} → statement M
 answer-spec =
     tie.close
-    (tie.spec
-    number-of-requires
-    enum-known-r
-    code-of-requires
-    enum-known-number
-    code-of-requires-2
-    returns
-    cast-put-next
-    put-next-requires
-    put-result-requires
-    returns-2
-    same-length
-    same-length-2
-    returns-3)
+    (tie.spec (λ c κs. search needs) (λ c. search needs) (λ c κs. search needs) (λ c. search needs)
+    (λ c κs. search needs) returns (λ c. search needs) put-next-requires (λ c κs. search needs) returns-2
+    (λ c. search needs) (λ c. search needs) returns-3)

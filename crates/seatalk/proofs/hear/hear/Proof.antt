@@ -23,17 +23,11 @@ other-length : (state : List ℕ) (symbol : ℕ) (result : List ℕ) → symbol 
 unfolding hearCall
 other-length state symbol result h other = rw (le-ltb 511 symbol h, ne-eqb (length state) 18 other)
 
-code-of-requires : tie.Need-code-of-requires
-code-of-requires c κs = search needs
-
 returns : tie.Need-returns
 returns c =
     let a = c .before .before .before .before .args in
     rw (handed (record { sfits = c .code-of .ok }) (c .code-of .ensures))
     (sym (above (a .state .now) (a .symbol) (a .result .now) (c .before .if1 .taken)))
-
-code-of-requires-2 : tie.Need-code-of-requires-2
-code-of-requires-2 c κs = search needs
 
 returns-2 : tie.Need-returns-2
 returns-2 c =
@@ -41,26 +35,8 @@ returns-2 c =
     rw (handed (record { sfits = c .code-of2 .ok }) (c .code-of2 .ensures))
     (sym (other-length (a .state .now) (a .symbol) (a .result .now) (c .before .before .if1 .left) (c .before .if2 .taken)))
 
-listener-of-requires : tie.Need-listener-of-requires
-listener-of-requires c κs = search needs
-
-cast-hear : tie.Need-cast-hear
-cast-hear c = search needs
-
-hear-requires : tie.Need-hear-requires
-hear-requires c κs = search needs
-
-cast-answer : tie.Need-cast-answer
-cast-answer c = search needs
-
 answer-requires : tie.Need-answer-requires
 answer-requires c κs = (c .before .before .before .before .before .if2 .left, c .before .before .hear .ensures ∙ rw (c .before .before .before .listener-of .ensures))
-
-same-length : tie.Need-same-length
-same-length c = search needs
-
-same-length-2 : tie.Need-same-length-2
-same-length-2 c = search needs
 
 returns-3 : tie.Need-returns-3
 unfolding hearCall
@@ -76,16 +52,5 @@ returns-3 c =
 pub hear-spec : {M : Type 1} → statement M
 hear-spec =
     tie.close
-    (tie.spec
-    code-of-requires
-    returns
-    code-of-requires-2
-    returns-2
-    listener-of-requires
-    cast-hear
-    hear-requires
-    cast-answer
-    answer-requires
-    same-length
-    same-length-2
-    returns-3)
+    (tie.spec (λ c κs. search needs) returns (λ c κs. search needs) returns-2 (λ c κs. search needs) (λ c. search needs)
+    (λ c κs. search needs) (λ c. search needs) answer-requires (λ c. search needs) (λ c. search needs) returns-3)

@@ -9,24 +9,6 @@ use borrow.Author.Needs.{needs}
 use Rattle.seatalk.proofs.hear.listener_of.Statement.{statement}
 use Rattle.seatalk.proofs.hear.listener_of.Tie as tie
 
-slice-aggregate-put : tie.Need-slice-aggregate-put
-slice-aggregate-put c = search needs
-
-sub-put : tie.Need-sub-put
-sub-put c = search needs
-
-part-put-start : tie.Need-part-put-start
-part-put-start c = search needs
-
-part-put-end : tie.Need-part-put-end
-part-put-end c = search needs
-
-put-requires : tie.Need-put-requires
-put-requires c κs = search needs
-
-shared-slice-read-t12 : tie.Need-shared-slice-read-t12
-shared-slice-read-t12 c = search needs
-
 returns : tie.Need-returns
 returns c =
     let state = c .before .before .before .before .before .before .args .state .now in
@@ -39,11 +21,5 @@ returns c =
 pub listener-of-spec : {M : Type 1} → statement M
 listener-of-spec =
     tie.close
-    (tie.spec
-    slice-aggregate-put
-    sub-put
-    part-put-start
-    part-put-end
-    put-requires
-    shared-slice-read-t12
-    returns)
+    (tie.spec (λ c. search needs) (λ c. search needs) (λ c. search needs) (λ c. search needs) (λ c κs. search needs)
+    (λ c. search needs) returns)

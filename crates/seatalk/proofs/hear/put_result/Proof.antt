@@ -8,9 +8,6 @@ use borrow.Author.Needs.{needs}
 use Rattle.seatalk.proofs.hear.put_result.Statement.{statement}
 use Rattle.seatalk.proofs.hear.put_result.Tie as tie
 
-slice-write-result : tie.Need-slice-write-result
-slice-write-result c = search needs
-
 slice-write-result-2 : tie.Need-slice-write-result-2
 slice-write-result-2 c = simp length-set (omega arith)
 
@@ -34,5 +31,4 @@ returns c =
     c .before .before .put .ensures ∙ result-laid (a .result .now) (a .t2 .bytes) (a .number) (a .t2 .count) (c .before .before .before .before .before .before .before .before .pre) long
 
 pub put-result-spec : {M : Type 1} → statement M
-put-result-spec =
-    tie.close (tie.spec slice-write-result slice-write-result-2 put-requires same-length returns)
+put-result-spec = tie.close (tie.spec (λ c. search needs) slice-write-result-2 put-requires same-length returns)

@@ -8,9 +8,6 @@ use borrow.Author.Needs.{needs}
 use Rattle.seatalk.proofs.hear.put_state.Statement.{statement}
 use Rattle.seatalk.proofs.hear.put_state.Tie as tie
 
-slice-write-state : tie.Need-slice-write-state
-slice-write-state c = search needs
-
 put-requires : tie.Need-put-requires
 put-requires c κs =
     let l = c .before .before .before .before .before .args .t1 in
@@ -31,4 +28,4 @@ returns c =
     c .before .before .put .ensures ∙ state-laid (a .state .now) (a .t1 .bytes) (a .t1 .held) (c .before .before .before .before .before .before .before .before .pre) long
 
 pub put-state-spec : {M : Type 1} → statement M
-put-state-spec = tie.close (tie.spec slice-write-state put-requires same-length returns)
+put-state-spec = tie.close (tie.spec (λ c. search needs) put-requires same-length returns)

@@ -33,18 +33,6 @@ module _ (zs : List ℤ) (f : Fields) (e : f ≡ arrayOf zs) where
       let all : length (f .values) ≡ length zs + (12 - length zs) = rw (e, length-append, length-replicate) in
       omega arith
 
-fields-of-requires : tie.Need-fields-of-requires
-fields-of-requires c κs = search needs
-
-cast-size : tie.Need-cast-size
-cast-size c = search needs
-
-mul-size : tie.Need-mul-size
-mul-size c = search needs
-
-code-of-requires : tie.Need-code-of-requires
-code-of-requires c κs = search needs
-
 returns : tie.Need-returns
 returns c =
     let a = c .before .before .before .before .before .args in
@@ -60,12 +48,6 @@ store-requires c κs =
     let n : f .result .count ≡ length (fieldsOf (a .m)) = rw (f .ensures) in
     (omega (arith, few (fieldsOf (a .m)) (f .result) (f .ensures) long), (omega arith, rw (listed (fieldsOf (a .m)) (f .result) (f .ensures)) (fields-fit (a .m) (c .before .before .before .before .before .pre))))
 
-cast-result : tie.Need-cast-result
-cast-result c = search needs
-
-same-length : tie.Need-same-length
-same-length c = search needs
-
 returns-2 : tie.Need-returns-2
 returns-2 c =
     let a = c .before .before .before .before .before .before .before .before .args in
@@ -76,13 +58,5 @@ returns-2 c =
 pub put-fields-spec : {M : Type 1} → statement M
 put-fields-spec =
     tie.close
-    (tie.spec
-    fields-of-requires
-    cast-size
-    mul-size
-    code-of-requires
-    returns
-    store-requires
-    cast-result
-    same-length
-    returns-2)
+    (tie.spec (λ c κs. search needs) (λ c. search needs) (λ c. search needs) (λ c κs. search needs) returns
+    store-requires (λ c. search needs) (λ c. search needs) returns-2)

@@ -20,18 +20,6 @@ unread : (bytes result : List ℕ) (r : Refusal) → readOf bytes ≡ Refused r 
 unfolding readCall
 unread bytes result r e = ap (λ (v : Reading). readReturned v result) e
 
-read-requires : tie.Need-read-requires
-read-requires c κs = search needs
-
-enum-known-r : tie.Need-enum-known-r
-enum-known-r c = search needs
-
-code-of-requires : tie.Need-code-of-requires
-code-of-requires c κs = search needs
-
-enum-known-m : tie.Need-enum-known-m
-enum-known-m c = search needs
-
 put-fields-requires : tie.Need-put-fields-requires
 put-fields-requires c κs = round-trip .read-in-range _ _ (sym (c .before .before .before .before .read .ensures) ∙ c .before .before .m .given .1)
 
@@ -40,9 +28,6 @@ returns c =
     let a = c .before .before .before .before .before .before .before .args in
     rw (handed (record { sfits = c .code-of .ok }) (c .code-of .ensures))
     (sym (unread (now (a .bytes)) (now (a .result)) _ (sym (c .before .before .before .before .read .ensures) ∙ c .before .before .r .given .1)))
-
-same-length : tie.Need-same-length
-same-length c = search needs
 
 returns-2 : tie.Need-returns-2
 unfolding readCall
@@ -55,12 +40,5 @@ returns-2 c =
 pub read-spec : {M : Type 1} → statement M
 read-spec =
     tie.close
-    (tie.spec
-    read-requires
-    enum-known-r
-    code-of-requires
-    enum-known-m
-    put-fields-requires
-    returns
-    same-length
-    returns-2)
+    (tie.spec (λ c κs. search needs) (λ c. search needs) (λ c κs. search needs) (λ c. search needs) put-fields-requires
+    returns (λ c. search needs) returns-2)

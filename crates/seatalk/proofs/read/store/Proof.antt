@@ -37,20 +37,8 @@ Inv-loop result₀ f n i₀ result i = (i ≤ f .count) × (result ≡ fieldsByt
 abbrev μ-loop : tie.MeasureT-loop
 μ-loop result₀ f n i₀ result i = f .count - i
 
-cast-n : tie.Need-cast-n Inv-loop μ-loop
-cast-n c = search needs
-
 loop-holds : tie.Need-loop-holds Inv-loop μ-loop
 loop-holds c = (omega arith, refl)
-
-mul-put-word : tie.Need-mul-put-word Inv-loop μ-loop
-mul-put-word c = search needs
-
-mul-bits-of : tie.Need-mul-bits-of Inv-loop μ-loop
-mul-bits-of c = search needs
-
-element-copy-out-bits-of : tie.Need-element-copy-out-bits-of Inv-loop μ-loop
-element-copy-out-bits-of c = search needs
 
 cast-bits-of : tie.Need-cast-bits-of Inv-loop μ-loop
 cast-bits-of c =
@@ -60,9 +48,6 @@ cast-bits-of c =
     let h = fits (f .values) (f .count) (w .loop .i) (w .before .before .pre .1 .1) (omega arith) (omega arith) in
     rw (read-back (getD (f .values) (w .loop .i) (pos 0)) h) h
 
-bits-of-requires : tie.Need-bits-of-requires Inv-loop μ-loop
-bits-of-requires c κs = search needs
-
 put-word-requires : tie.Need-put-word-requires Inv-loop μ-loop
 put-word-requires c κs =
     let w = c .before .before .before .before in
@@ -70,12 +55,6 @@ put-word-requires c κs =
     let long : length (a .t1 .values) ≡ 12 = search needs in
     let same : length (w .loop .result) ≡ length (a .result .now) = ap length (w .loop .inv .1) ∙ front-length fieldBytes 4 (λ z. refl) (a .t1 .values) (w .loop .i) (a .result .now) (omega arith) (omega arith) in
     omega arith
-
-add-i : tie.Need-add-i Inv-loop μ-loop
-add-i c = search needs
-
-loop-less : tie.Need-loop-less Inv-loop μ-loop
-loop-less c = search needs
 
 loop-again : tie.Need-loop-again Inv-loop μ-loop
 loop-again c =
@@ -106,19 +85,6 @@ returns c =
 pub store-spec : {M : Type 1} → statement M
 store-spec =
     tie.close
-    (tie.spec
-    Inv-loop
-    μ-loop
-    cast-n
-    loop-holds
-    mul-put-word
-    mul-bits-of
-    element-copy-out-bits-of
-    cast-bits-of
-    bits-of-requires
-    put-word-requires
-    add-i
-    loop-less
-    loop-again
-    same-length
+    (tie.spec Inv-loop μ-loop (λ c. search needs) loop-holds (λ c. search needs) (λ c. search needs) (λ c. search needs)
+    cast-bits-of (λ c κs. search needs) put-word-requires (λ c. search needs) (λ c. search needs) loop-again same-length
     returns)

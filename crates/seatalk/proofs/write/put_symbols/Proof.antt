@@ -11,28 +11,10 @@ use borrow.Author.Needs.{needs}
 use Rattle.seatalk.proofs.write.put_symbols.Statement.{statement}
 use Rattle.seatalk.proofs.write.put_symbols.Tie as tie
 
-slice-aggregate-write : tie.Need-slice-aggregate-write
-slice-aggregate-write c = search needs
-
-write-requires : tie.Need-write-requires
-write-requires c κs = search needs
-
-enum-known-r : tie.Need-enum-known-r
-enum-known-r c = search needs
-
-code-of-requires : tie.Need-code-of-requires
-code-of-requires c κs = search needs
-
-enum-known-n : tie.Need-enum-known-n
-enum-known-n c = search needs
-
 mul-size : tie.Need-mul-size
 mul-size c =
     let k = spelled (c .before .before .before .before .before .before .before .args .m) _ _ (rw (c .before .n .given .1) at (c .before .before .before .before .write .ensures)) in
     omega (arith, k .few)
-
-code-of-requires-2 : tie.Need-code-of-requires-2
-code-of-requires-2 c κs = search needs
 
 returns : tie.Need-returns
 returns c =
@@ -40,9 +22,6 @@ returns c =
     let k = spelled (a .m) _ _ (rw (c .before .before .before .n .given .1) at (c .before .before .before .before .before .before .write .ensures)) in
     let n = c .before .before .before .n .given .0 .0 in
     rw (handed (record { sfits = c .code-of2 .ok }) (c .code-of2 .ensures), k .in-range, size (a .m), ← k .count, lt-leb (2 * n) (length (a .result .now)) (omega arith))
-
-slice-aggregate-store : tie.Need-slice-aggregate-store
-slice-aggregate-store c = search needs
 
 store-requires : tie.Need-store-requires
 store-requires c κs =
@@ -61,9 +40,6 @@ returns-2 c =
     rw (handed (record { sfits = c .code-of .ok }) (c .code-of .ensures))
     (returned-refused (a .m) _ _ (a .result .now) (rw (c .before .before .r .given .1) at (c .before .before .before .before .before .write .ensures)))
 
-same-length : tie.Need-same-length
-same-length c = search needs
-
 returns-3 : tie.Need-returns-3
 returns-3 c =
     let a = c .before .before .before .before .before .before .before .before .before .before .before .before .before .args in
@@ -74,18 +50,6 @@ returns-3 c =
 pub put-symbols-spec : {M : Type 1} → statement M
 put-symbols-spec =
     tie.close
-    (tie.spec
-    slice-aggregate-write
-    write-requires
-    enum-known-r
-    code-of-requires
-    enum-known-n
-    mul-size
-    code-of-requires-2
-    returns
-    slice-aggregate-store
-    store-requires
-    cast-result
-    returns-2
-    same-length
+    (tie.spec (λ c. search needs) (λ c κs. search needs) (λ c. search needs) (λ c κs. search needs) (λ c. search needs)
+    mul-size (λ c κs. search needs) returns (λ c. search needs) store-requires cast-result returns-2 (λ c. search needs)
     returns-3)

@@ -20,18 +20,6 @@ abbrev μ-loop : tie.MeasureT-loop
 loop-holds : tie.Need-loop-holds Inv-loop μ-loop
 loop-holds c = (omega arith, refl)
 
-mul-s : tie.Need-mul-s Inv-loop μ-loop
-mul-s c = search needs
-
-shared-slice-read-s : tie.Need-shared-slice-read-s Inv-loop μ-loop
-shared-slice-read-s c = search needs
-
-cast-result : tie.Need-cast-result Inv-loop μ-loop
-cast-result c = search needs
-
-mul-result : tie.Need-mul-result Inv-loop μ-loop
-mul-result c = search needs
-
 slice-write-result : tie.Need-slice-write-result Inv-loop μ-loop
 slice-write-result c =
     let w = c .before .before in
@@ -39,27 +27,12 @@ slice-write-result c =
     let same : length (w .loop .result) ≡ length (a .result .now) = ap length (w .loop .inv .1) ∙ front-length symbolBytes 2 (λ s. refl) (a .symbols .now) (w .loop .i) (a .result .now) (omega arith) (omega arith) in
     omega arith
 
-high-byte-requires : tie.Need-high-byte-requires Inv-loop μ-loop
-high-byte-requires c κs = search needs
-
-mul-result-2 : tie.Need-mul-result-2 Inv-loop μ-loop
-mul-result-2 c = search needs
-
-add-result : tie.Need-add-result Inv-loop μ-loop
-add-result c = search needs
-
 slice-write-result-2 : tie.Need-slice-write-result-2 Inv-loop μ-loop
 slice-write-result-2 c =
     let w = c .before .before .before in
     let a = w .before .before .before .args in
     let same : length (w .loop .result) ≡ length (a .result .now) = ap length (w .loop .inv .1) ∙ front-length symbolBytes 2 (λ s. refl) (a .symbols .now) (w .loop .i) (a .result .now) (omega arith) (omega arith) in
     simp length-set (omega arith)
-
-add-i : tie.Need-add-i Inv-loop μ-loop
-add-i c = search needs
-
-loop-less : tie.Need-loop-less Inv-loop μ-loop
-loop-less c = search needs
 
 loop-again : tie.Need-loop-again Inv-loop μ-loop
 loop-again c =
@@ -86,21 +59,6 @@ returns c =
 pub store-spec : {M : Type 1} → statement M
 store-spec =
     tie.close
-    (tie.spec
-    Inv-loop
-    μ-loop
-    loop-holds
-    mul-s
-    shared-slice-read-s
-    cast-result
-    mul-result
-    slice-write-result
-    high-byte-requires
-    mul-result-2
-    add-result
-    slice-write-result-2
-    add-i
-    loop-less
-    loop-again
-    same-length
-    returns)
+    (tie.spec Inv-loop μ-loop loop-holds (λ c. search needs) (λ c. search needs) (λ c. search needs) (λ c. search needs)
+    slice-write-result (λ c κs. search needs) (λ c. search needs) (λ c. search needs) slice-write-result-2
+    (λ c. search needs) (λ c. search needs) loop-again same-length returns)

@@ -19,29 +19,11 @@ unnamed : (command : ℕ) (fields result : List ℕ) (r : Refusal) → namedOf c
 unfolding writeCall
 unnamed command fields result r e = ap (λ (v : Naming). namedReturned v result) e
 
-message-of-requires : tie.Need-message-of-requires
-message-of-requires c κs = search needs
-
-enum-known-r : tie.Need-enum-known-r
-enum-known-r c = search needs
-
-code-of-requires : tie.Need-code-of-requires
-code-of-requires c κs = search needs
-
-enum-known-m : tie.Need-enum-known-m
-enum-known-m c = search needs
-
-put-symbols-requires : tie.Need-put-symbols-requires
-put-symbols-requires c κs = search needs
-
 returns : tie.Need-returns
 returns c =
     let a = c .before .before .before .before .before .before .before .args in
     rw (handed (record { sfits = c .code-of .ok }) (c .code-of .ensures))
     (sym (unnamed (a .command) (now (a .fields)) (now (a .result)) _ (sym (c .before .before .before .before .message-of .ensures) ∙ c .before .before .r .given .1)))
-
-same-length : tie.Need-same-length
-same-length c = search needs
 
 returns-2 : tie.Need-returns-2
 unfolding writeCall
@@ -54,12 +36,5 @@ returns-2 c =
 pub write-spec : {M : Type 1} → statement M
 write-spec =
     tie.close
-    (tie.spec
-    message-of-requires
-    enum-known-r
-    code-of-requires
-    enum-known-m
-    put-symbols-requires
-    returns
-    same-length
-    returns-2)
+    (tie.spec (λ c κs. search needs) (λ c. search needs) (λ c κs. search needs) (λ c. search needs)
+    (λ c κs. search needs) returns (λ c. search needs) returns-2)

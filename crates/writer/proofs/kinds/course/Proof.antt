@@ -7,21 +7,11 @@ use Rattle.angle.proofs.Laws.{half-u}
 use Rattle.writer.proofs.kinds.course.Statement.{statement}
 use Rattle.writer.proofs.kinds.course.Tie as tie
 
-half-digits-requires : tie.Need-half-digits-requires
-half-digits-requires c κs = search needs
-
 mul-store3 : tie.Need-mul-store3
 mul-store3 c = omega (arith, half-u (c .before .before .before .before .args .halves), ap (λ (d : Digits). d .u) (c .before .before .half-digits .ensures))
-
-store3-requires : tie.Need-store3-requires
-store3-requires c κs = search needs
-
-same-length : tie.Need-same-length
-same-length c = search needs
 
 returns : tie.Need-returns
 returns c = rw (c .before .before .before .before .before .half-digits .ensures) at (c .before .before .store3 .ensures)
 
 pub course-spec : {M : Type 1} → statement M
-course-spec =
-    tie.close (tie.spec half-digits-requires mul-store3 store3-requires same-length returns)
+course-spec = tie.close (tie.spec (λ c κs. search needs) mul-store3 (λ c κs. search needs) (λ c. search needs) returns)

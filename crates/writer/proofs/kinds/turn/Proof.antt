@@ -10,26 +10,11 @@ use Rattle.angle.proofs.Laws.{whole-u}
 use Rattle.writer.proofs.kinds.turn.Statement.{statement}
 use Rattle.writer.proofs.kinds.turn.Tie as tie
 
-whole-digits-requires : tie.Need-whole-digits-requires
-whole-digits-requires c κs = search needs
-
 mul-store4 : tie.Need-mul-store4
 mul-store4 c = omega (arith, whole-u (c .before .before .before .before .args .degrees) (c .before .before .before .before .args .right), ap (λ (d : Digits). d .u) (c .before .before .whole-digits .ensures))
 
 add-store4 : tie.Need-add-store4
 add-store4 c = omega (arith, whole-u (c .before .before .before .before .args .degrees) (c .before .before .before .before .args .right), ap (λ (d : Digits). d .u) (c .before .before .whole-digits .ensures))
-
-bits-of-requires : tie.Need-bits-of-requires
-bits-of-requires c κs = search needs
-
-cast-store4 : tie.Need-cast-store4
-cast-store4 c = search needs
-
-store4-requires : tie.Need-store4-requires
-store4-requires c κs = search needs
-
-same-length : tie.Need-same-length
-same-length c = search needs
 
 returns : tie.Need-returns
 returns c =
@@ -38,12 +23,5 @@ returns c =
 pub turn-spec : {M : Type 1} → statement M
 turn-spec =
     tie.close
-    (tie.spec
-    whole-digits-requires
-    mul-store4
-    add-store4
-    bits-of-requires
-    cast-store4
-    store4-requires
-    same-length
-    returns)
+    (tie.spec (λ c κs. search needs) mul-store4 add-store4 (λ c κs. search needs) (λ c. search needs)
+    (λ c κs. search needs) (λ c. search needs) returns)

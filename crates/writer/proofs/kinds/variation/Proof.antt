@@ -7,25 +7,11 @@ use mir.ValLaws.{toZ-ofZ}
 use Rattle.writer.proofs.kinds.variation.Statement.{statement}
 use Rattle.writer.proofs.kinds.variation.Tie as tie
 
-bits-of-requires : tie.Need-bits-of-requires
-bits-of-requires c κs = search needs
-
-sub-store3 : tie.Need-sub-store3
-sub-store3 c = search needs
-
-cast-store3 : tie.Need-cast-store3
-cast-store3 c = search needs
-
-store3-requires : tie.Need-store3-requires
-store3-requires c κs = search needs
-
-same-length : tie.Need-same-length
-same-length c = search needs
-
 returns : tie.Need-returns
 returns c = rw (c .before .before .before .bits-of .ensures ∙ ap (ofZ w32) (toZ-ofZ w32 (c .before .before .before .before .before .before .args .east) (c .before .before .before .before .before .before .fits .east))) at (c .before .before .store3 .ensures)
 
 pub variation-spec : {M : Type 1} → statement M
 variation-spec =
     tie.close
-    (tie.spec bits-of-requires sub-store3 cast-store3 store3-requires same-length returns)
+    (tie.spec (λ c κs. search needs) (λ c. search needs) (λ c. search needs) (λ c κs. search needs) (λ c. search needs)
+    returns)

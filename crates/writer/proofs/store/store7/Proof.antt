@@ -10,12 +10,6 @@ use Rattle.writer.proofs.store.store7.Tie as tie
 returns : tie.Need-returns
 returns c = let a = c .before .args in no-room (a .a ∷ a .b ∷ a .c ∷ a .d ∷ a .e ∷ a .f ∷ a .g ∷ []) (a .part .now) (c .if1 .taken)
 
-add-part : tie.Need-add-part
-add-part c = search needs
-
-slice-write-part : tie.Need-slice-write-part
-slice-write-part c = search needs
-
 slice-write-part-2 : tie.Need-slice-write-part-2
 slice-write-part-2 c = simp length-set (omega arith)
 
@@ -34,11 +28,11 @@ slice-write-part-6 c = simp length-set (omega arith)
 slice-write-part-7 : tie.Need-slice-write-part-7
 slice-write-part-7 c = simp length-set (omega arith)
 
-same-length : tie.Need-same-length
-same-length c = search needs
-
 returns-2 : tie.Need-returns-2
 returns-2 c = let a = c .before .args in stored (a .a ∷ a .b ∷ a .c ∷ a .d ∷ a .e ∷ a .f ∷ a .g ∷ []) (a .part .now) (c .if1 .left)
 
 pub store7-spec : {M : Type 1} → statement M
-store7-spec = tie.close (tie.spec returns add-part slice-write-part slice-write-part-2 slice-write-part-3 slice-write-part-4 slice-write-part-5 slice-write-part-6 slice-write-part-7 same-length returns-2)
+store7-spec =
+    tie.close
+    (tie.spec returns (λ c. search needs) (λ c. search needs) slice-write-part-2 slice-write-part-3 slice-write-part-4
+    slice-write-part-5 slice-write-part-6 slice-write-part-7 (λ c. search needs) returns-2)
