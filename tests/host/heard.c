@@ -4,7 +4,7 @@
 
 #include <stdio.h>
 
-/* Document 01's ten symbols: a stray, a datagram cut off by a collision, its repeat, and a variation. Then a depth cut
+/* The ten symbols of rules 10.4: a stray, a datagram cut off by a collision, its repeat, and a variation. Then a depth cut
    off after four of five symbols by a key, with a symbol above 511 inside the key; a key whose repeat does not match;
    a turn; and a datagram that is not in the table. */
 static const uint32_t bus[] = {

@@ -1,4 +1,4 @@
-//! Compares libseatalk.a, call by call, with a second implementation written from document 01. See tests/boundary.
+//! Compares libseatalk.a, call by call, with a second implementation written from docs/RULES.md. See tests/boundary.
 //!
 //!     compared all            every section, between guard bytes and then against unreadable pages
 //!     compared exact          few calls, in blocks of their exact length, for valgrind

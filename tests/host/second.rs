@@ -1,4 +1,4 @@
-//! Document 01's listener, reader and writer behind the C boundary, written a second time from its text alone.
+//! The listener, the reader and the writer behind the C boundary, written a second time from the text of docs/RULES.md alone.
 //! One rule at a time can be broken, to try whether the comparison sees it.
 
 use crate::library::Call;

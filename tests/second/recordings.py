@@ -4,7 +4,7 @@ import struct
 
 MARK = b"\x53\x54"
 WRAP = 2 ** 32
-DOCUMENT = [(100, 0x03E), (200, 0x120), (211, 0x001), (300, 0x120), (311, 0x001), (322, 0x03E), (333, 0x000),
+TEN_SYMBOLS = [(100, 0x03E), (200, 0x120), (211, 0x001), (300, 0x120), (311, 0x001), (322, 0x03E), (333, 0x000),
             (400, 0x199), (411, 0x000), (422, 0x0FE)]
 FOUR_LINES = b"""bus listing 1
 333 20 01 3E 00 speed 62
@@ -141,8 +141,8 @@ def limits(r, command):
 
 def heard_cases():
     """Small recordings about the listener: collisions, strays, commands, times."""
-    yield "document 01's ten symbols", tape(DOCUMENT)
-    yield "document 01's examples", said(EXAMPLES)
+    yield "the ten symbols of rules 10.4", tape(TEN_SYMBOLS)
+    yield "the examples of rules 12", said(EXAMPLES)
     yield "empty input", b""
     for symbol in (0x000, 0x0FF, 0x100, 0x1FF):
         yield f"symbol {symbol:03X} alone", timed([symbol])

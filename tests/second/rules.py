@@ -1,4 +1,4 @@
-"""Document 01's listener, reader and listing, written a second time from its text alone."""
+"""The listener, the reader and the listing, written a second time from the text of the rules alone (docs/RULES.md)."""
 
 
 class Refused(Exception):

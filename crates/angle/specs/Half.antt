@@ -1,4 +1,4 @@
--- The half-degree angle of 53 and 89: 180*(U&3) + 4*six + (U&C)/4, six at most 44.
+-- The half-degree angle of 53 and 89: 180*(U&3) + 4*six + (U&C)/4, six at most 44 (rules 4.5).
 use Prim.Native.Nat.{ℕ, _+_, _*_, _/_, _%_}
 use Rattle.angle.specs.declared.Digits.{Digits}
 

@@ -41,7 +41,7 @@ fn main() {
         return;
     }
     let mut c = carrying(begin(), 0, 0, true);
-    // As many turns as a 64-bit counter can count.
+    // As many reads as a 64-bit counter can count.
     let mut left: u64 = 18446744073709551615;
     while 0 < left {
         c = read_and_list(c, &mut input, &mut out);
@@ -64,7 +64,7 @@ fn carrying(progress: Progress, base: u64, held: usize, going: bool) -> Carried
     }
 }
 
-// One turn: what is read is listed, and the last lines follow where the input has ended.
+// Reads once: what is read is listed, and the last lines follow where the input has ended.
 fn read_and_list(c: Carried, input: &mut [u8], out: &mut [u8]) -> Carried
     requires { ⌜ c .held ≤ length (now input) ⌝ }
     ensures { λ r. ⌜ r .held ≤ length (now (input .exit)) ⌝ }

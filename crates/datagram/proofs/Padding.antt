@@ -1,11 +1,12 @@
--- The laws of `padTo`: an element, the list before the zeros and the zeros past it, and a store at the first zero.
+-- The laws of `padTo`: an element, the list before the zeros, the zeros past it, which are all 0, and a store at the first zero.
 use Prim.Native.Nat.{ℕ, zero, suc, _-_, _<_}
 use mathlib.Core.Path.{_≡_, refl}
+use mathlib.Core.Bool.{true}
 use mathlib.Core.List.{List, [], _∷_, _++_}
 use native.Mathlib.Omega.{arith}
 use lib.ListN.{length, getD, set, take, drop, replicate, length-append}
 use lib.Seq.{take-append-seam, drop-append-seam, set-at, append-snoc}
-use Rattle.datagram.specs.Padding.{padTo}
+use Rattle.datagram.specs.Padding.{padTo, allZero}
 
 zeros-at : (n i : ℕ) → _≡_ {A = ℕ} (getD (replicate n 0) i 0) 0
 zeros-at zero i = refl
@@ -16,6 +17,10 @@ before-zeros : (n i : ℕ) (xs : List ℕ) → getD (xs ++ replicate n 0) i 0 �
 before-zeros n i [] = zeros-at n i
 before-zeros n zero (x ∷ xs) = refl
 before-zeros n (suc i) (x ∷ xs) = before-zeros n i xs
+
+pub zeros-pass : (n : ℕ) → allZero (replicate n 0) ≡ true
+zeros-pass zero = refl
+zeros-pass (suc n) = zeros-pass n
 
 pub getD-pad : (n i : ℕ) (xs : List ℕ) → getD (padTo n xs) i 0 ≡ getD xs i 0
 unfolding padTo

@@ -13,7 +13,7 @@ abbrev pub allZero : List ℕ → Bool
 allZero [] = true
 allZero (x ∷ xs) = eqb x 0 && allZero xs
 
--- n bytes from the k-th after a place on as one number, low byte first
+-- n bytes from the k-th after a position on as one number, low byte first
 abbrev pub wordFrom : List ℕ → ℕ → ℕ → ℕ → ℕ
 wordFrom s at k zero = 0
 wordFrom s at k (suc n) = getD s (at + k) 0 + 256 * wordFrom s at (suc k) n

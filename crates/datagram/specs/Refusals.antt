@@ -1,5 +1,5 @@
--- The refusals of document 01 by name, in its words; each number stands here once. The place is the record's offset for a
--- refusal of the recording reader and 0 elsewhere.
+-- The refusals of rules 2.1 by name; each number stands here once. The place is the record's offset for a refusal of the
+-- recording reader and 0 elsewhere (rules 2.2).
 use Prim.Native.Nat.{ℕ}
 use Rattle.datagram.specs.declared.Refusal.{Refusal}
 

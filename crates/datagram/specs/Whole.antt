@@ -1,8 +1,8 @@
--- What a whole datagram is, and how its bytes sound as 9-bit symbols.
+-- What a whole datagram is, and how its bytes sound as 9-bit symbols (rules 1.2 to 1.4).
 use Prim.Native.Nat.{ℕ, _+_, _%_}
-use mathlib.Core.Bool.{Bool, _&&_}
+use mathlib.Core.Bool.{Bool, true, _&&_}
 use mathlib.Core.List.{List, [], _∷_}
-use lib.Dec.{leb, eqb}
+use lib.Dec.{leb, ltb, eqb}
 use lib.ListN.{length, getD}
 
 -- the total length that a second byte declares: 3 plus its low four bits
@@ -12,6 +12,11 @@ declared second = 3 + second % 16
 -- 3 to 18 bytes, and exactly as many as the second declares
 unfoldable pub whole : List ℕ → Bool
 whole bytes = leb 3 (length bytes) && (leb (length bytes) 18 && eqb (length bytes) (declared (getD bytes 1 0)))
+
+-- every number is a byte
+abbrev pub allBytes : List ℕ → Bool
+allBytes [] = true
+allBytes (x ∷ xs) = ltb x 256 && allBytes xs
 
 -- the symbols of a datagram: the command bit, 256, is set on the first alone
 abbrev pub symbols : List ℕ → List ℕ

@@ -27,7 +27,7 @@ pub fn is_whole(bytes: &[u8]) -> bool
     n == 3 + bytes[1] as usize % 16
 }
 
-// Whether every byte from a place on is 0: eight at a time, the last eight where fewer are left, which may be seen twice.
+// Whether every byte from a position on is 0: eight at a time, the last eight where fewer are left, which may be seen twice.
 pub fn zeros_from(bytes: &[u8], from: usize) -> bool
     ensures { λ r. ⌜ r ≡ allZero (drop from (now (bytes .entry))) ⌝ }
 {

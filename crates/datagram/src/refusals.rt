@@ -1,4 +1,4 @@
-// The refusals of document 01 by name; each number stands here once.
+// The refusals of rules 2.1 by name; each number stands here once.
 use crate::Refusal;
 ghost use mathlib.Core.Path.{_≡_};
 ghost use Rattle.datagram.specs.Refusals.{refusalAt, outOfRange, noMark, cutShort, symbolAboveAt};

@@ -2,7 +2,7 @@
 -- the last of them. The first records of a datagram are kept one by one.
 use mathlib.Core.Path.{_≡_, refl, sym, ap, _∙_}
 use mathlib.Core.Bool.{Bool, true, false, cond}
-use mathlib.Core.List.{List, [], _∷_, _++_}
+use mathlib.Core.List.{List, [], _∷_}
 use Prim.Native.Nat.{ℕ, zero, suc, _+_, _-_, _*_, _≤_, _<_}
 use native.Mathlib.Nat.{sub-zero}
 use native.Mathlib.Omega.{arith}
@@ -14,11 +14,12 @@ use Rattle.datagram.specs.Whole.{declared}
 use Rattle.datagram.specs.Padding.{padTo}
 use Rattle.datagram.proofs.Padding.{take-pad}
 use Rattle.listener.specs.State.{holding, emptyListener}
-use Rattle.listener.specs.Step.{hearOf, commandSymbol, otherSymbol, reaching, handed, quiet}
+use Rattle.listener.specs.Step.{hearOf, reaching, handed, quiet}
 use Rattle.listener.specs.declared.Listener.{Listener}
 use Rattle.listener.specs.declared.Heard.{Heard}
 use Rattle.listener.specs.declared.Answer.the-variants.{Opened, Cancelled, Stray, Kept}
 use Rattle.listener.proofs.Held.{Unfinished, on-command, on-other}
+use Rattle.listener.proofs.Started.{other-reaches, command-cancels}
 use Rattle.recording.specs.declared.Record.the-variants as record-case
 use Rattle.recording.specs.Record.{recordOf, timeAt, byteOf}
 use Rattle.progress.specs.declared.Progress.{Progress}
@@ -26,15 +27,6 @@ use Rattle.progress.specs.Progress.{advanced, counted, tallied}
 use Rattle.framing.specs.Walk.{Line, Walk, behind, walkFrom, entryOf}
 use Rattle.framing.proofs.Gathering.{Gathering}
 use Rattle.framing.proofs.Walks.{walk-heard}
-
--- with something held, a byte is added to it, and a command symbol cancels it
-other-reaches : (xs : List ℕ) (b : ℕ) → 0 < length xs → otherSymbol xs b ≡ reaching (xs ++ (b ∷ []))
-other-reaches [] b h = absurd (omega arith)
-other-reaches (x ∷ xs) b h = refl
-
-command-cancels : (xs : List ℕ) (b : ℕ) → 0 < length xs → commandSymbol xs b ≡ quiet Cancelled (holding (b ∷ []))
-command-cancels [] b h = absurd (omega arith)
-command-cancels (x ∷ xs) b h = refl
 
 -- the walk goes on behind the line of what was heard, if it was handed out
 abbrev goes-on : Line → List ℕ → ℕ → ℕ → ℕ → ℕ → Progress → Heard → Walk

@@ -1,4 +1,5 @@
--- The message that a command and its fields' numbers name: refusal 4, then 5, then 7 for a flag that is neither 0 nor 1.
+-- The message that a command and its fields' numbers name: refusal 4, then 5, then 7 for a flag that is neither 0 nor 1
+-- (rules 11.5).
 use Prim.Native.Nat.{ℕ, zero, suc, _-_, _*_}
 use mathlib.Core.Bool.{Bool, cond}
 use mathlib.Core.List.{List, [], _∷_}

@@ -1,4 +1,4 @@
--- Fields as the C host lays them out: 4 bytes each, signed, low byte first.
+-- Fields as the C host lays them out: 4 bytes each, signed, low byte first (rules 11.2).
 use Prim.Native.Nat.{ℕ, _+_, _*_, _/_, _%_}
 use mathlib.Core.List.{List, [], _∷_, _++_}
 use lib.IntN.{ℤ}

@@ -1,4 +1,4 @@
-// From a command number and the bytes of its fields to a message.
+// From fields to a message: a command number and the fields' bytes, as C names a message.
 mod kinds;
 mod numbers;
 

@@ -1,4 +1,4 @@
--- The key sender is the offer of that datagram 86 with wait 0 and limit 3.
+-- The key sender is the offer of that datagram 86 with wait 0 and limit 3 (rules 8.1).
 use Prim.Native.Nat.{ℕ}
 use Rattle.message.specs.declared.Message.{Message}
 use Rattle.message.specs.declared.Message.the-variants.{Key}

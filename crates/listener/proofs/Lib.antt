@@ -3,3 +3,4 @@ pub mod Sound
 pub mod Handed
 pub mod Held
 pub mod Stays
+pub mod Started

@@ -1,5 +1,5 @@
 -- Soundness by the list of held bytes: a sound state is the one that holds its bytes, and they are fewer than declared.
-use Prim.Native.Nat.{ℕ, zero, suc, _-_, _≤_, _<_}
+use Prim.Native.Nat.{ℕ, _-_, _≤_, _<_}
 use mathlib.Core.Path.{_≡_, refl, sym, ap, _∙_}
 use mathlib.Core.Bool.{Bool, true, false, _&&_, and-eq-true-iff, cond, and-true, and-false}
 use mathlib.Core.List.{List, [], _∷_, _++_}
@@ -10,7 +10,7 @@ use lib.ListN.{length, getD, drop, replicate, take-append-drop, length-drop}
 use lib.Seq.{length-take-le}
 use Rattle.datagram.specs.Whole.{declared}
 use Rattle.datagram.specs.Padding.{padTo, allZero}
-use Rattle.datagram.proofs.Padding.{getD-pad, take-pad, drop-pad}
+use Rattle.datagram.proofs.Padding.{getD-pad, take-pad, drop-pad, zeros-pass}
 use Rattle.listener.specs.declared.Listener.{Listener}
 use Rattle.listener.specs.State.{sound, empty, heldBytes, holding, emptyListener}
 
@@ -25,10 +25,6 @@ module _ (held second : ℕ) (zeros : Bool) where
 pub sound-is : (l : Listener) → sound l ≡ ltb (l .held) (declared (getD (l .bytes) 1 0)) && allZero (drop (l .held) (l .bytes))
 unfolding sound
 sound-is l = one-test (l .held) (getD (l .bytes) 1 0) (allZero (drop (l .held) (l .bytes))) _ _ refl refl
-
-zeros-pass : (n : ℕ) → allZero (replicate n 0) ≡ true
-zeros-pass zero = refl
-zeros-pass (suc n) = zeros-pass n
 
 are-zeros : (xs : List ℕ) → allZero xs ≡ true → xs ≡ replicate (length xs) 0
 are-zeros [] e = refl

@@ -1,4 +1,4 @@
--- What a listener holds, and when its state is sound or empty.
+-- What a listener holds, and when its state is sound or empty (rules 3.1 to 3.3).
 use Prim.Native.Nat.{ℕ}
 use mathlib.Core.Bool.{Bool, true, _&&_, cond}
 use mathlib.Core.List.{List, []}

@@ -1,4 +1,4 @@
--- What one symbol does to a listener. A state is treated as the list of the bytes that it holds.
+-- What one symbol does to a listener (rules 3.4). A state is treated as the list of the bytes that it holds.
 use Prim.Native.Nat.{ℕ, _-_}
 use mathlib.Core.Bool.{cond}
 use mathlib.Core.List.{List, [], _∷_, _++_}

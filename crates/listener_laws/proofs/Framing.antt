@@ -8,7 +8,7 @@ use borrow.Author.Tests.{eq-eqb, ne-eqb, ltb-true}
 use lib.Dec.{ltb}
 use lib.ListN.{length, length-append}
 use lib.Seq.{append-snoc}
-use Rattle.datagram.specs.Whole.{declared, whole, symbols}
+use Rattle.datagram.specs.Whole.{declared, whole, symbols, allBytes}
 use Rattle.listener.specs.declared.Listener.{Listener}
 use Rattle.listener.specs.declared.Answer.{Answer}
 use Rattle.listener.specs.declared.Answer.the-variants.{Opened, Cancelled, Stray, Kept}
@@ -19,7 +19,6 @@ use Rattle.listener.proofs.Order.{refused-above}
 use Rattle.listener.proofs.Held.{Unfinished, on-command, on-other}
 use Rattle.message.specs.declared.Message.{Message}
 use Rattle.message.specs.Spelling.{bytesOf, symbolsOf}
-use Rattle.roundtrip_laws.specs.Laws.{allBytes}
 use Rattle.listener_laws.specs.Form.{Call, call, nothing, quietly, sounding, symbolsIn, Below, none, one-more, Attempt, alone, cut-short, Attempts, no-attempt, attempt-then, Mixed, mixed-end, as-it-is, above}
 use Rattle.listener_laws.specs.Demand.{run, passes, shows, allShow}
 

@@ -1,4 +1,4 @@
--- The recording of document 01 with a symbol above 511 put in: the premise of demand 3 can be met.
+-- The recording of rules 10.4 with a symbol above 511 put in: the premise of demand 3 can be met.
 use mathlib.Core.Path.{_≡_, refl}
 use mathlib.Core.List.{List, [], _∷_}
 use native.Mathlib.Omega.{arith}

@@ -1,4 +1,4 @@
--- Demand 3 in full, as one statement about any listener, reader and writer.
+-- Demand 3 in full, as one statement about any listener, reader and writer (rules 13.4).
 use mathlib.Core.Path.{_≡_}
 use mathlib.Core.Bool.{Bool, true, false}
 use mathlib.Core.List.{List, [], _∷_, _++_, map}

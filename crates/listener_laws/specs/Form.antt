@@ -1,4 +1,4 @@
--- The form of what is heard: strays, attempts, messages, and symbols above 511 anywhere.
+-- The form of what is heard: strays, attempts, messages, and symbols above 511 anywhere (rules 13.3).
 use mathlib.Core.Path.{_≡_}
 use mathlib.Core.List.{List, [], _∷_, _++_, map}
 use Prim.Native.Nat.{ℕ, _+_, _<_}

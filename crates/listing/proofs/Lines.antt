@@ -11,7 +11,8 @@ use Rattle.message.specs.declared.Reading.the-variants.{Read, Refused}
 use Rattle.message.specs.Fields.{kindOf, fieldsOf}
 use Rattle.listing.specs.Names.{nameOf}
 use Rattle.listing.specs.Line.{contentOf}
-use Rattle.listing.specs.Walk.{stopText}
+use Rattle.listing.specs.Walk.{stopText, endText}
+use Rattle.progress.specs.declared.Progress.{Progress}
 use Rattle.progress.specs.declared.Stop.{Stop}
 use Rattle.progress.specs.declared.Stop.the-variants.{Running, Stopped}
 use Rattle.listing.proofs.Decimal.{decimal-most}
@@ -70,3 +71,8 @@ content-most (Refused r) = omega (arith, decimal-most (r .number))
 pub stop-most : (stop : Stop) → length (stopText stop) ≤ 53
 stop-most Running = omega arith
 stop-most (Stopped r) = simp length-append (omega (arith, decimal-most (r .number), decimal-most (r .place)))
+
+pub end-most : (p : Progress) (stop : Stop) → length (endText p stop) ≤ 139
+end-most p stop =
+    simp length-append
+    (omega (arith, stop-most stop, decimal-most (p .handed), decimal-most (p .cancelled), decimal-most (p .stray)))

@@ -4,9 +4,9 @@ use mathlib.Core.List.{List, [], _∷_, _++_}
 use Prim.Native.Nat.{ℕ, zero, suc, _+_, _≤_, _<_}
 use native.Mathlib.Nat.{add-zero}
 use native.Mathlib.Omega.{arith}
-use lib.ListN.{length, take, set, length-append}
-use lib.Seq.{sets, length-sets, set-comm, set-set}
-use Rattle.listing.specs.Text.{Put, Placed}
+use lib.ListN.{length, take, drop, set, length-append}
+use lib.Seq.{sets, sets-eq, length-sets, set-comm, set-set}
+use Rattle.listing.specs.Text.{Put, Stored}
 
 sets-append : (l : List ℕ) (i : ℕ) (xs ys : List ℕ) → sets l i (xs ++ ys) ≡ sets (sets l i xs) (i + length xs) ys
 sets-append l i [] ys = rw add-zero
@@ -33,11 +33,11 @@ pub put-length : {a t b : List ℕ} {at n : ℕ} → Put a at t b n → length b
 put-length {a} {t} {b} {at} p = ap length (p .stored) ∙ length-sets a at t
 
 -- a text at the front
-pub put-placed : {a t b : List ℕ} {n : ℕ} → Put a 0 t b n
-    → _≡_ {A = Placed} (record { buffer = b; count = n }) (record { buffer = sets a 0 t; count = length t })
-put-placed {a} {t} {b} {n} p =
+pub put-stored : {a t b : List ℕ} {n : ℕ} → Put a 0 t b n → length t ≤ length a
+    → _≡_ {A = Stored} (record { buffer = b; count = n }) (record { buffer = t ++ drop (length t) a; count = length t })
+put-stored {a} {t} {b} {n} p fits =
     let m : n ≡ length t = omega (arith, p .moved) in
-    cc (p .stored)
+    cc (p .stored, sets-eq t a 0 (omega arith))
 
 -- a store before others
 pub set-sets : (l : List ℕ) (i j x : ℕ) (xs : List ℕ) → i < j → set (sets l j xs) i x ≡ sets (set l i x) j xs

@@ -1,4 +1,4 @@
--- The lines of a listing.
+-- The lines of a listing (rules 10.1 to 10.3).
 use Prim.Native.Nat.{ℕ}
 use mathlib.Core.List.{List, _++_}
 use Rattle.datagram.specs.declared.Refusal.{Refusal}

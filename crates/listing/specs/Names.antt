@@ -1,4 +1,4 @@
--- The names of the kinds in a listing.
+-- The names of the kinds in a listing (rules 4.2).
 use Prim.Native.Nat.{ℕ}
 use mathlib.Core.List.{List}
 use Rattle.message.specs.declared.Kind.{Kind}

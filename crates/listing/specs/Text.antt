@@ -5,10 +5,11 @@ use mathlib.Core.List.{List, [], _∷_, _++_}
 use Prim.Native.Char.{code}
 use Prim.Native.Nat.{ℕ, zero, suc, _+_, _/_, _%_}
 use Prim.Native.String.{String, [] as end, _∷_ as _then_}
-use lib.Dec.{leb, ltb}
+use lib.Dec.{ltb}
 use lib.IntN.{ℤ, pos, negsuc}
 use lib.ListN.{length, take}
 use lib.Seq.{sets}
+use Rattle.datagram.specs.Front.{atFront}
 
 -- a text in ASCII
 abbrev pub ascii : String → List ℕ
@@ -59,7 +60,7 @@ abbrev pub spacedNumbers : List ℤ → List ℕ
 spacedNumbers [] = []
 spacedNumbers (z ∷ zs) = 32 ∷ (signedDecimal z ++ spacedNumbers zs)
 
--- the text was put into the buffer from a place on, and nothing else changed; next is the place after it
+-- the text was put into the buffer from a position on, and nothing else changed; next is the position after it
 pub record Put (before : List ℕ) (at : ℕ) (text : List ℕ) (after : List ℕ) (next : ℕ) : Type 0 where
   pub stored : after ≡ sets before at text
   pub moved : next ≡ at + length text
@@ -71,11 +72,11 @@ pub record Kept (bytes : List ℕ) (n count : ℕ) : Type 0 where
   pub many : count ≡ length (decimal n)
 
 -- a buffer, and how many of its first bytes are text
-pub record Placed : Type 0 where
+pub record Stored : Type 0 where
   pub buffer : List ℕ
   pub count : ℕ
 
 -- the text at the front of a buffer of at least 512 bytes; a shorter one is left alone
-abbrev pub placed : List ℕ → List ℕ → Placed
-placed text buffer =
-    cond (leb 512 (length buffer)) (record { buffer = sets buffer 0 text; count = length text }) (record { buffer = buffer; count = 0 })
+abbrev pub storedText : List ℕ → List ℕ → Stored
+storedText text buffer =
+    atFront 512 text buffer (λ n after. record { buffer = after; count = n }) (λ same. record { buffer = same; count = 0 })

@@ -1,4 +1,4 @@
--- The text of a whole recording, and of a block.
+-- The text of a whole recording, and of a block (rules 10.1).
 use Prim.Native.Nat.{ℕ}
 use mathlib.Core.Path.{_≡_}
 use mathlib.Core.List.{List, [], _++_}

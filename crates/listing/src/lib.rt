@@ -14,7 +14,7 @@ ghost use lib.ListN.{length, take};
 ghost use lib.Seq.{sets};
 ghost use lib.IntN.{pos};
 ghost use Rattle.number.specs.Word.{num};
-ghost use Rattle.listing.specs.Text.{Put, Placed, Kept, placed, digitPairs, pairOf, decimal, hexByte, spacedHex, spacedNumbers};
+ghost use Rattle.listing.specs.Text.{Put, Stored, Kept, storedText, digitPairs, pairOf, decimal, hexByte, spacedHex, spacedNumbers};
 ghost use Rattle.datagram.specs.Whole.{whole};
 ghost use Rattle.listing.specs.Walk.{stopText, endText};
 ghost use Rattle.listing.specs.Line.{refusedText, lineOf, countLine, headerLine};
@@ -353,7 +353,7 @@ fn put_line(
 
 // Puts the first line of a listing and gives its length; a buffer shorter than 512 bytes gets nothing.
 pub fn put_header(out: &mut [u8]) -> usize
-    ensures { λ r. ⌜ _≡_ {A = Placed} (record { buffer = now (out .exit); count = r }) (placed headerLine (now (out .entry))) ⌝ }
+    ensures { λ r. ⌜ _≡_ {A = Stored} (record { buffer = now (out .exit); count = r }) (storedText headerLine (now (out .entry))) ⌝ }
 {
     if out.len() < 512 {
         return 0;
@@ -391,7 +391,7 @@ fn put_counts(pairs: &[u8; 712], out: &mut [u8], at: usize, progress: Progress) 
 
 // Puts the last lines of a listing and gives their length; a buffer shorter than 512 bytes gets nothing.
 pub fn put_end(out: &mut [u8], progress: Progress, stop: Stop) -> usize
-    ensures { λ r. ⌜ _≡_ {A = Placed} (record { buffer = now (out .exit); count = r }) (placed (endText progress stop) (now (out .entry))) ⌝ }
+    ensures { λ r. ⌜ _≡_ {A = Stored} (record { buffer = now (out .exit); count = r }) (storedText (endText progress stop) (now (out .entry))) ⌝ }
 {
     if out.len() < 512 {
         return 0;

@@ -1,4 +1,4 @@
--- Document 01's ten symbols list as its four lines: the definition of a listing, computed.
+-- The ten symbols of rules 10.4 list as its four lines: the definition of a listing, computed.
 use mathlib.Core.Path.{refl}
 use Rattle.datagram.specs.Padding.{padTo}
 use Rattle.datagram.specs.Whole.{whole}

@@ -1,4 +1,4 @@
--- The recording that document 01 prints, and the four lines that it lists as.
+-- The recording of rules 10.4, and the four lines that it lists as.
 use Prim.Native.Nat.{ℕ, _/_, _%_}
 use mathlib.Core.Path.{_≡_}
 use mathlib.Core.List.{List, [], _∷_, _++_}

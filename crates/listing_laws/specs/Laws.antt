@@ -1,4 +1,4 @@
--- What holds of the listing of a recording, in whatever pieces it is read.
+-- What holds of the listing of a recording, in whatever pieces it is read (rules 13.7).
 use mathlib.Core.Path.{_≡_}
 use mathlib.Core.Bool.{Bool, cond}
 use mathlib.Core.List.{List, [], _∷_, _++_}

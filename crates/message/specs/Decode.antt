@@ -1,4 +1,4 @@
--- What the bytes of each kind say, letter by letter as document 01 prints them. A field that its bits misspell is refused.
+-- What the bytes of each kind say, letter by letter as rules 4.3 prints them. A field that its bits misspell is refused (4.4).
 use Prim.Native.Nat.{ℕ, _+_, _*_, _/_, _%_}
 use mathlib.Core.Bool.{Bool, cond}
 use lib.Dec.{leb, eqb}

@@ -1,5 +1,4 @@
--- Document 01's number and values for each case of a message: its kind, its command, and its fields in table order, flags
--- 0 or 1.
+-- The numbers of each case of a message (rules 4.2): its kind, its command, and its fields in table order, flags 0 or 1.
 use Prim.Native.Nat.{ℕ}
 use mathlib.Core.Bool.{Bool}
 use mathlib.Core.List.{List, [], _∷_}

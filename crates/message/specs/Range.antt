@@ -1,4 +1,4 @@
--- The range of each field, and what a message gets for its first field out of range.
+-- The range of each field (rules 4.2), and what a message gets for its first field out of range.
 use Prim.Native.Nat.{ℕ}
 use mathlib.Core.Bool.{_&&_, cond}
 use lib.Dec.{leb}

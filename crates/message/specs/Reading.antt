@@ -1,4 +1,4 @@
--- Reading any bytes: refusals 3, 4, 5, 6 and 7 in that order, or the message.
+-- Reading any bytes: refusals 3, 4, 5, 6 and 7 in that order, or the message (rules 5.1).
 use Prim.Native.Nat.{ℕ}
 use mathlib.Core.Bool.{cond}
 use mathlib.Core.List.{List}

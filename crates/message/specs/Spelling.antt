@@ -1,4 +1,4 @@
--- How each kind is written: the bytes of a message. A field out of range is cut to the bits that it has on the bus.
+-- How each kind is written: the bytes of a message (rules 4.3). A field out of range is cut to the bits that it has on the bus.
 use Prim.Native.Nat.{ℕ, _+_, _-_, _*_, _/_, _%_}
 use mathlib.Core.Bool.{Bool}
 use mathlib.Core.List.{List, [], _∷_}

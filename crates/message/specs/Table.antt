@@ -1,4 +1,4 @@
--- The one table of kinds: command, length and kind, as document 01 lists them.
+-- The one table of kinds: command, length and kind, as rules 4.2 lists them.
 use Prim.Native.Nat.{ℕ}
 use mathlib.Core.Bool.{cond}
 use mathlib.Core.List.{List, [], _∷_}

@@ -6,7 +6,7 @@ ghost use mathlib.Core.Path.{_≡_};
 ghost use Rattle.message.specs.Table.{rowOf, kinds, findOf, rowAt};
 ghost use Rattle.message.specs.Fields.{kindOf, commandOf};
 
-// A kind of message, by its name in the table of document 01.
+// A kind of message, by its row in the table of rules 4.2.
 pub enum Kind {
     Depth,
     WindAngle,

@@ -1,7 +1,7 @@
--- What is carried from block to block of a listing: the listener and the counts, and whether the listing goes on.
+-- What is carried from block to block of a listing: the listener and the counts, and whether the listing goes on
+-- (rules 10.1, 10.3).
 use Prim.Native.Nat.{ℕ, _+_, _%_, _^_}
 use mathlib.Core.Bool.{Bool, true, false}
-use mathlib.Core.List.{[]}
 use Rattle.listener.specs.declared.Heard.{Heard}
 use Rattle.listener.specs.Answers.{isHanded, isCancelled, isStray}
 use Rattle.listener.specs.State.{emptyListener}

@@ -1,4 +1,4 @@
--- Reading bytes as a datagram of one kind: refusals 3, 4, 5, 6 and 7 in that order, or the message.
+-- Reading bytes as a datagram of one kind: refusals 3, 4, 5, 6 and 7 in that order, or the message (rules 5.2).
 use Prim.Native.Nat.{ℕ}
 use mathlib.Core.Path.{_≡_}
 use mathlib.Core.Bool.{cond}

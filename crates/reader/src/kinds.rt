@@ -1,4 +1,4 @@
-// Each kind's bytes, named by document 01's letters, as a message whose fields are in range. Where no test is made the
+// Each kind's bytes, named by the letters of rules 4.3, as a message whose fields are in range. Where no test is made the
 // bytes cannot spell a field out of range.
 use angle::half_angle;
 use angle::turns_right;

@@ -20,7 +20,7 @@ pub claim : Examples
 unfolding examples kindOf fieldsOf readOf readKind rangeOf findOf kinds whole
 claim = refl
 
--- the claim at each place; past the last, no bytes are not a whole datagram
+-- the claim at each row; past the last, no bytes are not a whole datagram
 right : (i : ℕ) → outcomeOf (readOf (exampleAt i .bytes)) ≡ exampleAt i .expected
 unfolding exampleAt readOf whole
 right i =

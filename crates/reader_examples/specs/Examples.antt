@@ -1,4 +1,4 @@
--- The worked examples E1 to E12 of document 01, and the one claim over all of them.
+-- The worked examples E1 to E12 of rules 12, and the one claim over all of them.
 use Prim.Native.Nat.{ℕ}
 use mathlib.Core.Path.{_≡_}
 use mathlib.Core.List.{List, [], _∷_, map}

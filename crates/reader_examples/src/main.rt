@@ -1,4 +1,4 @@
-// The worked examples E1 to E12 of document 01: each datagram is read, and a line tells what it gave.
+// The worked examples E1 to E12 of rules 12: each datagram is read, and a line tells what it gave.
 use libc::STDOUT_FILENO;
 use message::Reading;
 use to_fields::Fields;

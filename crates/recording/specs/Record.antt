@@ -1,4 +1,4 @@
--- A record is the mark 53 54, the time as 32 bits and the symbol as 16 bits, low byte first.
+-- A record is the mark 53 54, the time as 32 bits and the symbol as 16 bits, low byte first (rules 9).
 use Prim.Native.Nat.{ℕ, _+_, _-_, _*_}
 use mathlib.Core.Bool.{_&&_, cond}
 use mathlib.Core.List.{List}

@@ -4,14 +4,13 @@ use mathlib.Core.Bool.{true}
 use Prim.Native.Nat.{_+_, _*_, _%_}
 use native.Mathlib.Omega.{arith}
 use borrow.Author.Tests.{eq-eqb}
-use Rattle.datagram.specs.Whole.{whole}
+use Rattle.datagram.specs.Whole.{whole, allBytes}
 use Rattle.angle.specs.Half.{halfDigits}
 use Rattle.angle.specs.Degree.{wholeDigits}
 use Rattle.angle.proofs.Laws.{half-u, half-six, whole-u, whole-six}
 use Rattle.message.specs.declared.Message.{Message}
 use Rattle.message.specs.declared.Message.the-variants.{Depth, WindAngle, WindSpeed, Speed, Trip, Total, Logs, Speeds, Water, Lamp, Latitude, Longitude, Ground, Course, Time, Date, Key, Heading, Variation, Turn}
 use Rattle.message.specs.Spelling.{bytesOf, topDigit}
-use Rattle.roundtrip_laws.specs.Laws.{allBytes}
 use Rattle.roundtrip_laws.proofs.Lists.{num-small, Below, below-bytes}
 
 pub whole-datagram : (m : Message) → whole (bytesOf m) ≡ true

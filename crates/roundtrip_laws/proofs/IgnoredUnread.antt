@@ -9,14 +9,13 @@ use lib.Dec.{T, eqb, eqb→eq}
 use lib.ListN.{length, drop}
 use borrow.Author.Tests.{eqb-true}
 use Rattle.number.proofs.Finite.{every, at}
-use Rattle.datagram.specs.Whole.{whole}
+use Rattle.datagram.specs.Whole.{whole, allBytes}
 use Rattle.message.specs.declared.Kind.{Kind}
 use Rattle.message.specs.declared.Kind.the-variants.{Depth, WindAngle, WindSpeed, Speed, Trip, Total, Logs, Speeds, Water, Lamp, Latitude, Longitude, Ground, Course, Time, Date, Key, Heading, Variation, Turn}
 use Rattle.message.specs.declared.Row.{Row}
 use Rattle.message.specs.declared.Lookup.the-variants.{Found}
 use Rattle.message.specs.Table.{findOf}
 use Rattle.message.specs.Reading.{byte, readKind, readOf}
-use Rattle.roundtrip_laws.specs.Laws.{allBytes}
 use Rattle.roundtrip_laws.specs.Ignored.{Ignored, ignored, agreeOutside}
 use Rattle.roundtrip_laws.proofs.Lists.{first}
 

@@ -7,8 +7,8 @@ use native.Mathlib.Omega.{arith}
 use lib.Dec.{ltb}
 use lib.ListN.{length, getD, drop}
 use borrow.Author.Tests.{lt-ltb, ltb-true}
+use Rattle.datagram.specs.Whole.{allBytes}
 use Rattle.number.specs.Word.{num}
-use Rattle.roundtrip_laws.specs.Laws.{allBytes}
 
 -- a flag is 0 or 1
 pub num-small : (b : Bool) → num b ≤ 1

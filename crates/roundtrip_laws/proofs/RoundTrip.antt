@@ -5,6 +5,7 @@ use mathlib.Core.List.{List}
 use Prim.Native.Nat.{ℕ}
 use native.Mathlib.Omega.{arith}
 use lib.ListN.{length}
+use Rattle.datagram.specs.Whole.{allBytes}
 use Rattle.message.specs.declared.Message.{Message}
 use Rattle.message.specs.declared.Reading.{Reading}
 use Rattle.message.specs.declared.Reading.the-variants.{Read}
@@ -14,7 +15,7 @@ use Rattle.message.specs.Spelling.{bytesOf}
 use Rattle.message.specs.Reading.{byte, readOf}
 use Rattle.message.specs.Table.{findOf}
 use Rattle.roundtrip_laws.specs.Ignored.{ignored, asWritten}
-use Rattle.roundtrip_laws.specs.Laws.{RoundTrip, allBytes}
+use Rattle.roundtrip_laws.specs.Laws.{RoundTrip}
 use Rattle.message.specs.Fields.{kindOf}
 use Rattle.roundtrip_laws.proofs.Lists.{of-length}
 use Rattle.roundtrip_laws.proofs.Bytes.{whole-datagram, all-bytes}

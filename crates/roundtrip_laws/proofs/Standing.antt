@@ -6,10 +6,10 @@ use Prim.Native.Nat.{ℕ, _+_, _*_, _%_, _<_}
 use lib.Bits.{bitAnd}
 use lib.Dec.{T, eqb, eqb→eq}
 use lib.ListN.{getD, drop}
+use Rattle.datagram.specs.Whole.{allBytes}
 use Rattle.number.specs.Word.{bit, num}
 use Rattle.number.proofs.Finite.{every, at}
 use Rattle.roundtrip_laws.specs.Ignored.{Ignored, asWritten}
-use Rattle.roundtrip_laws.specs.Laws.{allBytes}
 use Rattle.roundtrip_laws.proofs.Lists.{first}
 
 -- a byte whose bits under the mask are as written

@@ -1,4 +1,4 @@
--- The bits that reading ignores, kind by kind, and how the writer sets them: to 0, but for the 2 of 89.
+-- The bits that reading ignores, kind by kind, and how the writer sets them: to 0, but for the 2 of 89 (rules 4.3).
 use Prim.Native.Nat.{ℕ, _-_}
 use mathlib.Core.Bool.{Bool, true, _&&_}
 use mathlib.Core.List.{List, [], _∷_}

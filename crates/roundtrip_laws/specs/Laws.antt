@@ -1,11 +1,10 @@
--- Demand 2 about the definitions that the reader and the writer equal.
+-- Demand 2 about the definitions that the reader and the writer equal (rules 13.2).
 use mathlib.Core.Path.{_≡_}
-use mathlib.Core.Bool.{Bool, true, _&&_}
-use mathlib.Core.List.{List, [], _∷_, _++_}
+use mathlib.Core.Bool.{true}
+use mathlib.Core.List.{List, _++_}
 use Prim.Native.Nat.{ℕ, _+_, _≤_}
-use lib.Dec.{ltb}
 use lib.ListN.{length, take, drop}
-use Rattle.datagram.specs.Whole.{whole}
+use Rattle.datagram.specs.Whole.{whole, allBytes}
 use Rattle.message.specs.declared.Row.{Row}
 use Rattle.message.specs.declared.Lookup.the-variants.{Found}
 use Rattle.message.specs.declared.Message.{Message}
@@ -20,13 +19,8 @@ use Rattle.roundtrip_laws.specs.Ignored.{ignored, asWritten, agreeOutsid
 use Rattle.writer.specs.declared.Written.the-variants.{Wrote}
 use Rattle.writer.specs.Writing.{outcome, writeOf}
 
--- every number is a byte
-abbrev pub allBytes : List ℕ → Bool
-allBytes [] = true
-allBytes (x ∷ xs) = ltb x 256 && allBytes xs
-
 pub record RoundTrip : Type 0 where
-  -- given room, a message in range is written: its symbols from the place on, every other number as it was
+  -- given room, a message in range is written: its symbols from the position on, every other number as it was
   pub written : (m : Message) (buffer : List ℕ) (at : ℕ) → rangeOf m ≡ InRange → at + length (bytesOf m) ≤ length buffer
       → writeOf m buffer at ≡ outcome (Wrote (length (bytesOf m))) (take at buffer ++ (symbolsOf m ++ drop (at + length (bytesOf m)) buffer))
   -- the writer accepts no other message

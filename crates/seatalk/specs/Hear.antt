@@ -1,4 +1,4 @@
--- One symbol heard, with the listener's state in 18 lent bytes.
+-- One symbol heard, with the listener's state in 18 lent bytes (rules 11.2, 11.3).
 use Prim.Native.Nat.{ℕ, _<_}
 use mathlib.Core.Path.{_≡_}
 use mathlib.Core.Bool.{cond}
@@ -42,7 +42,7 @@ pub record Longer (byte : ℕ) (l : Listener) (state : List ℕ) : Type 0 where
   pub few : l .held < 18
   pub bytes : stateOf l ≡ set (set state (l .held) byte) 0 (l .held)
 
--- the answers in document 01's order
+-- the answers by number (rules 11.2)
 abbrev pub numberOf : Answer → Numbered
 numberOf answer.Opened = Number 0
 numberOf answer.Cancelled = Number 1

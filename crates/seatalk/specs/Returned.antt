@@ -1,12 +1,11 @@
--- What a C call tells: the number that it returns, and what the lent result holds afterwards.
+-- What a C call returns, and what the lent result holds afterwards (rules 11.1).
 use Prim.Native.Nat.{ℕ, _+_, _*_, _%_}
-use mathlib.Core.Bool.{cond}
-use mathlib.Core.List.{List, _++_}
-use lib.Dec.{leb}
+use mathlib.Core.List.{List}
 use lib.IntN.{ℤ, pos, negℤ}
-use lib.ListN.{length, drop}
+use lib.ListN.{length}
 use Rattle.datagram.specs.declared.Refusal.{Refusal}
 use Rattle.datagram.specs.Refusals.{noRoom}
+use Rattle.datagram.specs.Front.{atFront}
 
 pub record Returned : Type 0 where
   pub code : ℤ
@@ -24,8 +23,5 @@ abbrev pub refused : Refusal → List ℕ → Returned
 refused r result = returned (codeOf r) result
 
 -- these bytes at the front of the result and their number, or refusal 8 where there is no room
-abbrev pub placed : List ℕ → List ℕ → Returned
-placed bytes result =
-    cond (leb (length bytes) (length result))
-    (returned (pos (length bytes)) (bytes ++ drop (length bytes) result))
-    (refused noRoom result)
+abbrev pub storedResult : List ℕ → List ℕ → Returned
+storedResult bytes result = atFront (length bytes) bytes result (λ n. returned (pos n)) (refused noRoom)

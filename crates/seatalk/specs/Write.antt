@@ -1,4 +1,4 @@
--- A command and its fields written as the symbols of a message.
+-- A command and its fields written as the symbols of a message (rules 11.5).
 use Prim.Native.Nat.{ℕ, _/_, _%_}
 use mathlib.Core.List.{List, [], _∷_}
 use Rattle.message.specs.declared.Message.{Message}
@@ -10,7 +10,7 @@ use Rattle.from_fields.specs.declared.Naming.{Naming}
 use Rattle.from_fields.specs.declared.Naming.the-variants.{Named, Refused}
 use Rattle.from_fields.specs.Naming.{namedOf}
 use Rattle.from_fields.specs.Numbers.{each}
-use Rattle.seatalk.specs.Returned.{Returned, refused, placed}
+use Rattle.seatalk.specs.Returned.{Returned, refused, storedResult}
 
 -- a symbol is 2 bytes, low byte first
 abbrev pub symbolBytes : ℕ → List ℕ
@@ -21,7 +21,7 @@ symbolsBytes symbols = each symbolBytes symbols
 
 -- the symbols of a message in range, or refusal 7; 8 comes last
 abbrev pub writeReturned : Verdict → Message → List ℕ → Returned
-writeReturned verdict.InRange m result = placed (symbolsBytes (symbolsOf m)) result
+writeReturned verdict.InRange m result = storedResult (symbolsBytes (symbolsOf m)) result
 writeReturned (verdict.Refused r) m result = refused r result
 
 -- the message that the command and the fields name, or refusal 4, 5 or 7

@@ -15,7 +15,7 @@ ghost use lib.ListN.{length, drop};
 ghost use Rattle.listener.specs.Step.{hearOf};
 ghost use Rattle.seatalk.specs.Hear.{returned, stateOf, Longer, listenerOf, numberOf, resultOf, answered, hearCall};
 
-// An answer by its number in document 01's order, or the refusal.
+// An answer by its number (rules 11.2), or the refusal.
 pub enum Numbered {
     Number(u8),
     Refused(Refusal),

@@ -46,7 +46,7 @@ fn code_of(r: Refusal) -> i32
     0 - n as i32
 }
 
-// Puts these bytes from a place on.
+// Puts these bytes from a position on.
 fn put(lent: &mut [u8], at: usize, bytes: &[u8])
     requires { ⌜ at + length (now bytes) ≤ length (now lent) ⌝ }
     ensures { λ _. ⌜ now (lent .exit) ≡ paste (now (lent .entry)) at (now (bytes .entry)) (length (now (bytes .entry))) ⌝ }
@@ -58,7 +58,7 @@ fn put(lent: &mut [u8], at: usize, bytes: &[u8])
     }
 }
 
-// Puts the four bytes of 32 bits from a place on, low byte first.
+// Puts the four bytes of 32 bits from a position on, low byte first.
 fn put_word(lent: &mut [u8], at: usize, n: u32)
     requires { ⌜ at + 4 ≤ length (now lent) ⌝ }
     ensures { λ _. ⌜ now (lent .exit) ≡ sets (now (lent .entry)) at (wordBytes n) ⌝ }

@@ -13,7 +13,7 @@ ghost use Rattle.message.specs.declared.Verdict.the-variants.{InRange};
 ghost use Rattle.message.specs.Fields.{fieldsOf};
 ghost use Rattle.message.specs.Range.{rangeOf};
 ghost use Rattle.from_fields.specs.Numbers.{fieldsBytes, AllFit};
-ghost use Rattle.seatalk.specs.Returned.{returned, placed};
+ghost use Rattle.seatalk.specs.Returned.{returned, storedResult};
 ghost use Rattle.seatalk.specs.Read.{readCall};
 
 // Stores the fields, 4 bytes each.
@@ -32,7 +32,7 @@ fn store(f: Fields, result: &mut [u8])
 // The fields of a message in range, or refusal 8.
 fn put_fields(m: Message, result: &mut [u8]) -> i32
     requires { ⌜ rangeOf m ≡ InRange ⌝ }
-    ensures { λ r. ⌜ returned r (now (result .exit)) ≡ placed (fieldsBytes (fieldsOf m)) (now (result .entry)) ⌝ }
+    ensures { λ r. ⌜ returned r (now (result .exit)) ≡ storedResult (fieldsBytes (fieldsOf m)) (now (result .entry)) ⌝ }
 {
     let f = to_fields::fields_of(m);
     let size = 4 * (f.count as usize);

@@ -1,4 +1,4 @@
--- What a sender holds, and when its state is sound.
+-- What a sender holds, and when its state is sound (rules 7.3).
 use Prim.Native.Nat.{ℕ}
 use mathlib.Core.Bool.{Bool, _&&_}
 use mathlib.Core.List.{List}

@@ -1,4 +1,4 @@
--- What an offer, a poll and an echo do.
+-- What an offer, a poll and an echo do (rules 7.2, 7.4, 7.5).
 use Prim.Native.Nat.{ℕ, _+_, _-_, _%_, _^_}
 use mathlib.Core.Bool.{_&&_, cond}
 use mathlib.Core.List.{List, []}
@@ -53,7 +53,7 @@ abbrev pub movedTo : Sender → Phase → ℕ → ℕ → Sender
 movedTo s phase position failures =
     record { phase = phase; datagram = s .datagram; position = position; wait = s .wait; limit = s .limit; failures = failures }
 
--- the time now minus last activity, modulo 2^32
+-- the time now minus last activity, modulo 2^32 (rules 7.1)
 abbrev pub elapsed : ℕ → ℕ → ℕ
 elapsed time last = (time + 2 ^ 32 - last) % 2 ^ 32
 

@@ -14,7 +14,7 @@ ghost use Rattle.sender.specs.Step.{offerOf, pollOf, echoOf, outcome, re
 // Bit times of silence before a sender starts, where its offer says 0.
 pub const DEFAULT_WAIT: u8 = 10;
 
-// What a sender is doing, in document 01's order.
+// What a sender is doing, by number as rules 7.3 has it.
 pub enum Phase {
     Waiting,
     Awaiting,

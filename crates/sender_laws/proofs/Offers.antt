@@ -1,22 +1,22 @@
 -- An accepted offer is a sound sender that holds the datagram offered; a refused one is the all-zero sender, which is not sound.
-use Prim.Native.Nat.{ℕ, zero, suc, _≤_}
+use Prim.Native.Nat.{ℕ, _≤_}
 use native.Mathlib.Omega.{arith}
 use mathlib.Core.Path.{_≡_, refl}
 use mathlib.Core.Bool.{Bool, true, false, _&&_, cond, and-eq-true-iff}
 use mathlib.Core.List.{List}
 use lib.Dec.{leb}
-use lib.ListN.{length, replicate}
+use lib.ListN.{length}
 use Rattle.datagram.specs.declared.Refusal.{Refusal}
 use Rattle.datagram.specs.Refusals.{notWhole, badWaitOrLimit}
-use Rattle.datagram.specs.Whole.{whole}
-use Rattle.datagram.specs.Padding.{padTo, allZero}
-use Rattle.datagram.proofs.Padding.{getD-pad, take-pad, drop-pad}
+use Rattle.datagram.specs.Whole.{whole, allBytes}
+use Rattle.datagram.specs.Padding.{padTo}
+use Rattle.datagram.proofs.Padding.{getD-pad, take-pad, drop-pad, zeros-pass}
 use Rattle.datagram.proofs.Whole.{declares}
 use Rattle.sender.specs.declared.Offered.{Offered}
 use Rattle.sender.specs.declared.Verdict.the-variants as verdict
 use Rattle.sender.specs.State.{sound, lengthOf, bytesOf}
 use Rattle.sender.specs.Step.{waitOf, zeroSender, refusedOffer, offered, offerOf}
-use Rattle.sender_laws.specs.Run.{Call, answers, sent, commands, allBytes}
+use Rattle.sender_laws.specs.Run.{Call, answers, sent, commands}
 use Rattle.sender_laws.proofs.Starts.{starts-bounded}
 
 -- the wait and the limit are in range
@@ -50,10 +50,6 @@ module _ (bytes : List ℕ) (wait limit : ℕ) where
   unfolding offerOf
   offer = whole-tested (whole bytes) refl
 
-zeros : (n : ℕ) → allZero (replicate n 0) ≡ true
-zeros zero = refl
-zeros (suc n) = zeros n
-
 module _ (bytes : List ℕ) (wait limit : ℕ) (w : whole bytes ≡ true) where
   offered-length : lengthOf (offered bytes wait limit) ≡ length bytes
   offered-length = rw (getD-pad 18 1 bytes, declares bytes w)
@@ -66,7 +62,7 @@ module _ (bytes : List ℕ) (wait limit : ℕ) (w : whole bytes ≡ true) where
   offered-sound r =
       let both = and-eq-true-iff (leb 10 wait && leb wait 255) (leb 1 limit && leb limit 50) .0 r in
       let some = and-eq-true-iff (leb 1 limit) (leb limit 50) .0 (both .1) .0 in
-      rw (offered-holds, offered-length, w, drop-pad, zeros, both .0, both .1) some
+      rw (offered-holds, offered-length, w, drop-pad, zeros-pass, both .0, both .1) some
 
 pub accepted-sound : {bytes : List ℕ} {wait limit : ℕ} {o : Offered} → Offer bytes wait limit o → o .verdict ≡ verdict.Accepted
     → sound (o .sender) ≡ true

@@ -7,6 +7,7 @@ use mathlib.Core.Bool.{Bool, true, false, _||_, true≢false}
 use mathlib.Core.List.{List, [], _∷_, _++_, append-nil, append-assoc}
 use lib.ListN.{length, getD, take, length-take}
 use lib.Seq.{take-suc, take-all}
+use Rattle.datagram.proofs.Whole.{as-many}
 use Rattle.datagram.specs.Whole.{declared, symbols}
 use Rattle.sender.specs.declared.Phase.the-variants as phase
 use Rattle.sender.specs.declared.Sender.{Sender}
@@ -25,10 +26,6 @@ sentOf d s = let size = declared (getD d 1 0) in take (sentBy (s .phase) (s .pos
 abbrev sentIn : Sender → List ℕ
 sentIn s = sentOf (s .datagram) s
 
-length-symbols : (bytes : List ℕ) → length (symbols bytes) ≡ length bytes
-length-symbols [] = refl
-length-symbols (x ∷ xs) = refl
-
 next-sent : (xs : List ℕ) (i : ℕ) (later : List ℕ) → i < length xs → take i xs ++ (getD xs i 0 ∷ later) ≡ take (i + 1) xs ++ later
 next-sent xs i later h = rw (add-one i, take-suc xs i 0 h, append-assoc)
 
@@ -37,11 +34,11 @@ move-sent : {s : Sender} {c : Call} {said : Outcome} → Move s c said → fails
 move-sent (stays answer quiet unheard) n later = rw (quiet later)
 move-sent {s} (starts h e) n later =
     let full = facts s h .all-bytes in
-    rw e (next-sent (symbols (bytesOf s)) 0 later (rw length-symbols (omega arith)))
+    rw e (next-sent (symbols (bytesOf s)) 0 later (rw as-many (omega arith)))
 move-sent {s} (goes-on h e more) n later =
     let full = facts s h .all-bytes in
     let a = awaits s h e in
-    rw e (next-sent (symbols (bytesOf s)) (s .position + 1) later (rw length-symbols (omega arith)))
+    rw e (next-sent (symbols (bytesOf s)) (s .position + 1) later (rw as-many (omega arith)))
 move-sent {s} (finishes h e end) n later = rw (e, end)
 move-sent (waits-again h e more) n later = cc
 move-sent (gives-up h e all) n later = cc
@@ -68,4 +65,4 @@ sent-so-far s calls e n =
 pub sent-all : (s : Sender) (calls : List Call) → s .phase ≡ phase.Waiting → someFails (answers s calls) ≡ false
     → after s calls .phase ≡ phase.Done → sent (answers s calls) ≡ symbols (bytesOf s)
 sent-all s calls e n done =
-    rw done at (sent-so-far s calls e n) ∙ take-all (lengthOf s) (symbols (bytesOf s)) (rw (length-symbols, length-take) (omega arith))
+    rw done at (sent-so-far s calls e n) ∙ take-all (lengthOf s) (symbols (bytesOf s)) (rw (as-many, length-take) (omega arith))

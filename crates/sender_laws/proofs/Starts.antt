@@ -9,11 +9,11 @@ use mathlib.Core.List.{List, [], _∷_}
 use borrow.Author.Tests.{ltb-true, lt-leb}
 use lib.Dec.{leb, ltb}
 use lib.ListN.{getD}
-use Rattle.datagram.specs.Whole.{symbols}
+use Rattle.datagram.specs.Whole.{symbols, allBytes}
 use Rattle.sender.specs.declared.Sender.{Sender}
 use Rattle.sender.specs.declared.Outcome.{Outcome}
 use Rattle.sender.specs.State.{bytesOf, symbolAt}
-use Rattle.sender_laws.specs.Run.{Call, called, answers, withSent, sent, commands, startsLeft, allBytes}
+use Rattle.sender_laws.specs.Run.{Call, called, answers, withSent, sent, commands, startsLeft}
 use Rattle.sender_laws.proofs.Choice.{one-of-two}
 use Rattle.sender_laws.proofs.Sound.{waiting-left}
 use Rattle.sender_laws.proofs.Moves.{Move, stays, starts, goes-on, finishes, waits-again, gives-up, move}

@@ -1,16 +1,16 @@
--- What holds over any list of calls of a sender.
+-- What holds over any list of calls of a sender (rules 7.6, 13.6).
 use mathlib.Core.Path.{_≡_}
 use mathlib.Core.Bool.{true, false}
 use mathlib.Core.List.{List}
 use Prim.Native.Nat.{ℕ, _+_, _≤_}
 use lib.ListN.{take}
-use Rattle.datagram.specs.Whole.{symbols}
+use Rattle.datagram.specs.Whole.{symbols, allBytes}
 use Rattle.sender.specs.declared.Phase.the-variants as phase
 use Rattle.sender.specs.declared.Sender.{Sender}
 use Rattle.sender.specs.declared.Verdict.the-variants as verdict
 use Rattle.sender.specs.State.{sound, lengthOf, bytesOf}
 use Rattle.sender.specs.Step.{offerOf, zeroSender}
-use Rattle.sender_laws.specs.Run.{Call, answers, after, termsOf, sent, commands, someEnds, someFails, echoes, sentBy, startsLeft, allBytes}
+use Rattle.sender_laws.specs.Run.{Call, answers, after, termsOf, sent, commands, someEnds, someFails, echoes, sentBy, startsLeft}
 
 pub record SenderLaws : Type 0 where
   -- an accepted offer is a sound sender that holds the datagram offered; the all-zero sender is not sound

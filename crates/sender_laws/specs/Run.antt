@@ -1,6 +1,6 @@
 -- Lists of calls of a sender, each in the state that the call before it returned.
 use Prim.Native.Nat.{ℕ, suc, _+_, _-_}
-use mathlib.Core.Bool.{Bool, true, false, _&&_, _||_, cond}
+use mathlib.Core.Bool.{Bool, true, false, _||_, cond}
 use mathlib.Core.List.{List, [], _∷_}
 use lib.Dec.{leb, ltb}
 use Rattle.sender.specs.declared.Phase.{Phase}
@@ -106,8 +106,3 @@ startsLeft phase.Waiting failures limit = limit - failures
 startsLeft phase.Awaiting failures limit = limit - failures - 1
 startsLeft phase.Done failures limit = 0
 startsLeft phase.GaveUp failures limit = 0
-
--- every number is a byte
-abbrev pub allBytes : List ℕ → Bool
-allBytes [] = true
-allBytes (x ∷ xs) = ltb x 256 && allBytes xs

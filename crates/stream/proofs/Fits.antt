@@ -1,13 +1,12 @@
 -- A pass puts no more text than there is room for, and so do the first line and the last ones.
-use mathlib.Core.Path.{_≡_, refl, ap, _∙_}
+use mathlib.Core.Path.{_≡_, refl, ap}
 use mathlib.Core.Bool.{Bool, true, false, cond}
-use mathlib.Core.List.{List, []}
+use mathlib.Core.List.{List, [], _++_}
 use Prim.Native.Nat.{ℕ, zero, suc, _+_, _-_, _≤_}
 use native.Mathlib.Omega.{arith}
 use borrow.Author.Tests.{ne-eqb, leb-true}
 use lib.Dec.{leb}
-use lib.ListN.{length, take, length-append}
-use lib.Seq.{sets, length-sets}
+use lib.ListN.{length, take, drop, length-append}
 use Rattle.datagram.proofs.Whole.{declares}
 use Rattle.listener.specs.declared.Heard.{Heard}
 use Rattle.listener.specs.declared.Listener.{Listener}
@@ -18,16 +17,12 @@ use Rattle.recording.specs.declared.Record.{Record}
 use Rattle.recording.specs.declared.Record.the-variants as record-case
 use Rattle.recording.specs.Record.{recordOf}
 use Rattle.progress.specs.declared.Progress.{Progress}
-use Rattle.progress.specs.declared.Stop.{Stop}
 use Rattle.progress.specs.declared.Stop.the-variants.{Running}
 use Rattle.progress.specs.Progress.{advanced}
 use Rattle.framing.specs.Steps.{entry}
 use Rattle.framing.specs.Walk.{Walk, walk, behind, entryOf, lineRoom, walkRecord, walkFrom}
-use Rattle.listing.specs.Text.{Placed, placed}
-use Rattle.listing.specs.Line.{lineOf, headerLine}
-use Rattle.listing.specs.Walk.{endText}
-use Rattle.listing.proofs.Decimal.{decimal-most}
-use Rattle.listing.proofs.Lines.{stop-most}
+use Rattle.listing.specs.Text.{Stored, storedText}
+use Rattle.listing.specs.Line.{lineOf}
 use Rattle.listing.proofs.Short.{entry-short}
 
 -- what is handed out has a line that fits
@@ -68,27 +63,15 @@ text-fits (suc n) s at p room =
     (λ roomy. record-fits at room p (λ time h. walkFrom lineOf n s (at + 8) (advanced p h) (room - length (entryOf lineOf time h))) (recordOf s at) roomy
     (λ time h. text-fits n s (at + 8) (advanced p h) (room - length (entryOf lineOf time h))))
 
-end-short : (p : Progress) (stop : Stop) → length (endText p stop) ≤ 512
-end-short p stop =
-    simp length-append (omega (arith, stop-most stop, decimal-most (p .handed), decimal-most (p .cancelled), decimal-most (p .stray)))
-
--- what is put at the front of a buffer is no longer than the buffer
-placed-fits : (text buffer : List ℕ) {after : List ℕ} {n : ℕ} → length text ≤ 512
-    → _≡_ {A = Placed} (record { buffer = after; count = n }) (placed text buffer) → n ≤ length after
-placed-fits text buffer {after} {n} short e = go (leb 512 (length buffer)) refl
+-- what is stored at the front of a buffer is no longer than the buffer
+pub stored-fits : (text buffer : List ℕ) {after : List ℕ} {n : ℕ}
+    → _≡_ {A = Stored} (record { buffer = after; count = n }) (storedText text buffer) → n ≤ length after
+stored-fits text buffer {after} {n} e = go (leb 512 (length buffer)) refl
   where
     go : (b : Bool) → leb 512 (length buffer) ≡ b → n ≤ length after
     go true t =
-        let p : _≡_ {A = Placed} (record { buffer = after; count = n }) (record { buffer = sets buffer 0 text; count = length text }) = rw t at e in
-        let long : length after ≡ length buffer = ap (λ (q : Placed). length (q .buffer)) p ∙ length-sets buffer 0 text in
-        omega (arith, ap (λ (q : Placed). q .count) p, long, leb-true 512 (length buffer) t)
+        let p : _≡_ {A = Stored} (record { buffer = after; count = n }) (record { buffer = text ++ drop (length text) buffer; count = length text }) = rw t at e in
+        omega (arith, ap (λ (q : Stored). q .count) p, simp length-append at (ap (λ (q : Stored). length (q .buffer)) p))
     go false t =
-        let p : _≡_ {A = Placed} (record { buffer = after; count = n }) (record { buffer = buffer; count = 0 }) = rw t at e in
-        omega (arith, ap (λ (q : Placed). q .count) p)
-
-pub header-fits : (buffer : List ℕ) {after : List ℕ} {n : ℕ} → _≡_ {A = Placed} (record { buffer = after; count = n }) (placed headerLine buffer) → n ≤ length after
-header-fits buffer e = placed-fits headerLine buffer (omega arith) e
-
-pub end-fits : (p : Progress) (stop : Stop) (buffer : List ℕ) {after : List ℕ} {n : ℕ}
-    → _≡_ {A = Placed} (record { buffer = after; count = n }) (placed (endText p stop) buffer) → n ≤ length after
-end-fits p stop buffer e = placed-fits (endText p stop) buffer (end-short p stop) e
+        let p : _≡_ {A = Stored} (record { buffer = after; count = n }) (record { buffer = buffer; count = 0 }) = rw t at e in
+        omega (arith, ap (λ (q : Stored). q .count) p)

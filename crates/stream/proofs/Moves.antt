@@ -14,7 +14,7 @@ past-sets l i [] j h = refl
 past-sets l i (v ∷ vs) j h =
     past-sets (set l i v) (suc i) vs j (omega arith) ∙ getD-set-other l i j v 0 (λ e. omega arith)
 
--- the bytes from a place on, of the first n
+-- the bytes from a position on, of the first n
 abbrev pub stretch : ℕ → ℕ → List ℕ → List ℕ
 stretch at n l = drop at (take n l)
 

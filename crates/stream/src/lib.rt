@@ -10,7 +10,7 @@ ghost use lib.ListN.{length, take, drop};
 ghost use lib.Seq.{sets};
 ghost use Rattle.recording.specs.Record.{recordOf};
 ghost use Rattle.progress.specs.Progress.{cutOff, placedFrom};
-ghost use Rattle.listing.specs.Text.{Placed, placed};
+ghost use Rattle.listing.specs.Text.{Stored, storedText};
 ghost use Rattle.listing.specs.Walk.{endText};
 ghost use Rattle.stream.specs.Pass.{Filled, passOf};
 
@@ -74,7 +74,7 @@ fn move_down(input: &mut [u8], at: usize, n: usize)
 
 // Puts the last lines where the recording ends with these bytes not listed: none, or a record cut short.
 pub fn put_last(progress: Progress, base: u64, rest: &[u8], out: &mut [u8]) -> usize
-    ensures { λ r. ⌜ _≡_ {A = Placed} (record { buffer = now (out .exit); count = r }) (placed (endText progress (placedFrom base (cutOff (recordOf (now (rest .entry)) 0)))) (now (out .entry))) ⌝ }
+    ensures { λ r. ⌜ _≡_ {A = Stored} (record { buffer = now (out .exit); count = r }) (storedText (endText progress (placedFrom base (cutOff (recordOf (now (rest .entry)) 0)))) (now (out .entry))) ⌝ }
 {
     listing::put_end(out, progress, placed_from(base, end_of(rest)))
 }

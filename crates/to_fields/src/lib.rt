@@ -1,4 +1,4 @@
-// A message as document 01's numbers: its fields in table order.
+// From a message to its fields: the numbers of rules 4.2, in table order.
 use message::Message;
 ghost use mathlib.Core.Path.{_≡_};
 ghost use mathlib.Core.List.{_∷_};

@@ -20,7 +20,7 @@ use Rattle.writer.specs.Writing.{Outcome, outcome, storeOf, ruledWrite}
 pub stored : (bytes part : List ℕ) → length bytes ≤ length part → outcome (Wrote (length bytes)) (sets part 0 (symbols bytes)) ≡ storeOf bytes part
 stored bytes part h =
     let n = as-many bytes in
-    rw (le-leb (length bytes) (length part) h)
+    rw (le-leb (length bytes) (length part) h, n)
     (ap (outcome (Wrote (length bytes)))
     (sets-eq (symbols bytes) part 0 (omega arith)
     ∙ ap (λ (k : ℕ). symbols bytes ++ drop k part) (zero-add (length (symbols bytes)) ∙ n)))
@@ -28,12 +28,12 @@ stored bytes part h =
 pub no-room : (bytes part : List ℕ) → length part < length bytes → outcome (Refused noRoom) part ≡ storeOf bytes part
 no-room bytes part h = rw (lt-leb (length bytes) (length part) h)
 
--- what was stored in the part from the place on, said of the whole buffer
+-- what was stored in the part from the position on, said of the whole buffer
 module _ (bytes buffer : List ℕ) (at : ℕ) where
   stays : (t : Bool) → leb (length bytes) (length (drop at buffer)) ≡ t
       → outcome (storeOf bytes (drop at buffer) .answer) (take at buffer ++ storeOf bytes (drop at buffer) .buffer)
       ≡ cond t (outcome (Wrote (length bytes)) (take at buffer ++ (symbols bytes ++ drop (at + length bytes) buffer))) (outcome (Refused noRoom) buffer)
-  stays true e = rw e (ap (λ (rest : List ℕ). outcome (Wrote (length bytes)) (take at buffer ++ (symbols bytes ++ rest))) (drop-drop (length bytes) at buffer))
+  stays true e = rw (e, as-many bytes) (ap (λ (rest : List ℕ). outcome (Wrote (length bytes)) (take at buffer ++ (symbols bytes ++ rest))) (drop-drop (length bytes) at buffer))
   stays false e = rw e (ap (outcome (Refused noRoom)) (take-append-drop at buffer))
 
   pub home : (r : Written) (part : List ℕ) → at ≤ length buffer → outcome r part ≡ storeOf bytes (take (length buffer - at) (drop at buffer))

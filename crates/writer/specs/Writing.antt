@@ -1,4 +1,5 @@
--- Writing a message into a lent buffer of 16-bit numbers, from the place that the caller names.
+-- Writing a message into a lent buffer of 16-bit numbers, from the position that the caller names
+-- (rules 6).
 use Prim.Native.Nat.{ℕ, _+_, _-_}
 use mathlib.Core.Bool.{_&&_, cond}
 use mathlib.Core.List.{List, _++_}
@@ -6,6 +7,7 @@ use lib.Dec.{leb}
 use lib.ListN.{length, take, drop}
 use Rattle.datagram.specs.Refusals.{noRoom}
 use Rattle.datagram.specs.Whole.{symbols}
+use Rattle.datagram.specs.Front.{atFront}
 use Rattle.message.specs.declared.Message.{Message}
 use Rattle.message.specs.declared.Verdict.{Verdict}
 use Rattle.message.specs.declared.Verdict.the-variants as verdict
@@ -24,12 +26,9 @@ outcome answer buffer = record { answer = answer; buffer = buffer }
 
 -- the symbols of these bytes at the front of the lent part, or refusal 8
 abbrev pub storeOf : List ℕ → List ℕ → Outcome
-storeOf bytes part =
-    cond (leb (length bytes) (length part))
-    (outcome (Wrote (length bytes)) (symbols bytes ++ drop (length bytes) part))
-    (outcome (Refused noRoom) part)
+storeOf bytes part = atFront (length bytes) (symbols bytes) part (λ n. outcome (Wrote n)) (outcome (Refused noRoom))
 
--- refusal 7; then 8 where the place is past the end or fewer numbers remain than the length
+-- refusal 7; then 8 where the position is past the end or fewer numbers remain than the length
 abbrev pub ruledWrite : Verdict → List ℕ → List ℕ → ℕ → Outcome
 ruledWrite (verdict.Refused r) bytes buffer at = outcome (Refused r) buffer
 ruledWrite verdict.InRange bytes buffer at =

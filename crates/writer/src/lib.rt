@@ -16,7 +16,7 @@ pub enum Written {
     Refused(Refusal),
 }
 
-// Writes the message's symbols from the place `at`, or gives refusal 7 or 8, in that order. Nothing else is changed.
+// Writes the message's symbols from the position `at`, or gives refusal 7 or 8, in that order. Nothing else is changed.
 pub fn write(m: Message, buf: &mut [u16], at: usize) -> Written
     ensures { λ r. ⌜ outcome r (now (buf .exit)) ≡ writeOf m (now (buf .entry)) at ⌝ }
 {

@@ -1,7 +1,8 @@
 -- `list_and_write` writes no more than was put, and holds no more than it did.
 use borrow.Author.Needs.{needs}
 use native.Mathlib.Omega.{arith}
-use Rattle.stream.proofs.Fits.{end-fits}
+use Rattle.listing.specs.Walk.{endText}
+use Rattle.stream.proofs.Fits.{stored-fits}
 use Rattle.stream.proofs.Passes.{same-input, written-fits, held-within}
 use Rattle.buslist.proofs.list_and_write.Statement.{statement}
 use Rattle.buslist.proofs.list_and_write.Tie as tie
@@ -15,7 +16,7 @@ put-out-requires c κs =
 put-out-requires-2 : tie.Need-put-out-requires-2
 put-out-requires-2 c κs =
     let r = c .before .before .before .before .before .before .before .before .before .before .before .before .before .before .before .list-held in
-    end-fits (r .result .progress) (r .result .stop) (r .last .1 .1 .1 .1 .0) (c .before .before .before .put-end .ensures)
+    stored-fits (endText (r .result .progress) (r .result .stop)) (r .last .1 .1 .1 .1 .0) (c .before .before .before .put-end .ensures)
 
 returns-3 : tie.Need-returns-3
 returns-3 c =

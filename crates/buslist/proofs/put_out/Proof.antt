@@ -1,4 +1,4 @@
--- `put_out` ends: each turn writes something, or one more interruption is counted.
+-- `put_out` ends: each iteration writes something, or one more interruption is counted.
 use borrow.Author.Needs.{needs}
 use Prim.Native.Nat.{_+_, _-_, _≤_}
 use Rattle.buslist.proofs.put_out.Statement.{statement}

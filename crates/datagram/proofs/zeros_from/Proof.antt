@@ -1,4 +1,4 @@
--- `zeros_from` has seen zeros up to i, eight a turn, and the last eight decide.
+-- `zeros_from` has seen zeros up to i, eight at a time, and the last eight decide.
 use borrow.Author.Needs.{needs}
 use mathlib.Core.Path.{_≡_, refl, sym, ap, _∙_}
 use Prim.Native.Nat.{ℕ, _-_, _≤_}

@@ -1,4 +1,4 @@
--- `zeros_one_by_one` looks at each byte in turn: the bytes from the place on are all 0 if those from `i` on are.
+-- `zeros_one_by_one` looks at each byte: those from the position on are all 0 if those from `i` on are.
 use borrow.Author.Needs.{needs}
 use borrow.Author.Tests.{ne-eqb}
 use mathlib.Core.Path.{_≡_, sym, ap, _∙_}

@@ -1,4 +1,4 @@
--- `gather` has the bytes of the first i records after i turns; a command symbol, or their number, ends them.
+-- `gather` has the bytes of the first i records after i iterations; a command symbol, or their number, ends them.
 use borrow.Author.Needs.{needs}
 use Prim.Native.Nat.{_+_, _*_, _%_, _-_, _≤_, _<_}
 use mathlib.Core.Path.{_≡_, refl, sym, _∙_}

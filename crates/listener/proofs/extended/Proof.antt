@@ -13,15 +13,11 @@ use Rattle.datagram.proofs.Padding.{set-pad, getD-pad}
 use Rattle.listener.specs.declared.Listener.{Listener}
 use Rattle.listener.specs.declared.Answer.the-variants.{Kept}
 use Rattle.listener.specs.State.{heldBytes, holding}
-use Rattle.listener.specs.Step.{otherSymbol, reaching, quiet, handed}
+use Rattle.listener.specs.Step.{otherSymbol, quiet, handed}
 use Rattle.listener.proofs.Sound.{held-by, Held}
+use Rattle.listener.proofs.Started.{other-reaches}
 use Rattle.listener.proofs.extended.Statement.{statement}
 use Rattle.listener.proofs.extended.Tie as tie
-
--- something is held
-continues : (xs : List ℕ) (b : ℕ) → 0 < length xs → otherSymbol xs b ≡ reaching (xs ++ (b ∷ []))
-continues [] b h = absurd (omega arith)
-continues (x ∷ xs) b h = refl
 
 -- the new byte changes what is declared only as the second, and two bytes are fewer than any declared length
 same-test : (xs : List ℕ) (b : ℕ) → eqb (length (xs ++ (b ∷ []))) (declared (getD (xs ++ (b ∷ [])) 1 0)) ≡ eqb (length xs + 1) (declared (getD xs 1 0))
@@ -44,11 +40,11 @@ module _ (l : Listener) (b : ℕ) (k : Held l) where
 
   hands-out : 0 < l .held → l .held + 1 ≡ declared (getD (l .bytes) 1 0) → handed (heldBytes l ++ (b ∷ [])) ≡ otherSymbol (heldBytes l) b
   hands-out some at-end =
-      rw (continues (heldBytes l) b (omega arith), test, eq-eqb (l .held + 1) (declared (getD (l .bytes) 1 0)) at-end)
+      rw (other-reaches (heldBytes l) b (omega arith), test, eq-eqb (l .held + 1) (declared (getD (l .bytes) 1 0)) at-end)
 
   keeps : 0 < l .held → (l .held + 1 ≡ declared (getD (l .bytes) 1 0) → ⊥) → quiet Kept (record { bytes = set (l .bytes) (l .held) b; held = l .held + 1 }) ≡ otherSymbol (heldBytes l) b
   keeps some before-end =
-      rw (continues (heldBytes l) b (omega arith), test, ne-eqb (l .held + 1) (declared (getD (l .bytes) 1 0)) before-end)
+      rw (other-reaches (heldBytes l) b (omega arith), test, ne-eqb (l .held + 1) (declared (getD (l .bytes) 1 0)) before-end)
       (ap (λ (s : Listener). quiet Kept s) (next (omega (arith, k))))
 
 known : (c : tie.Start) → Held (c .args .t1)

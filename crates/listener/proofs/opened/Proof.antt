@@ -1,21 +1,18 @@
--- `opened` stores the byte into a silent state, and answers by whether anything was held.
+-- `opened` stores the byte into an empty state, and answers by whether anything was held.
 use borrow.Author.Needs.{needs}
 use Prim.Native.Nat.{ℕ, _<_}
 use mathlib.Core.Path.{_≡_, refl, sym, ap, _∙_}
-use mathlib.Core.List.{List, [], _∷_}
+use mathlib.Core.List.{[], _∷_}
 use native.Mathlib.Omega.{arith}
 use lib.ListN.{length, set, length-take}
 use Rattle.datagram.proofs.Padding.{set-pad}
 use Rattle.listener.specs.declared.Listener.{Listener}
 use Rattle.listener.specs.declared.Answer.the-variants.{Cancelled}
 use Rattle.listener.specs.State.{heldBytes, holding, emptyListener}
-use Rattle.listener.specs.Step.{commandSymbol, quiet}
+use Rattle.listener.specs.Step.{quiet}
+use Rattle.listener.proofs.Started.{command-cancels}
 use Rattle.listener.proofs.opened.Statement.{statement}
 use Rattle.listener.proofs.opened.Tie as tie
-
-cancels : (xs : List ℕ) (b : ℕ) → 0 < length xs → commandSymbol xs b ≡ quiet Cancelled (holding (b ∷ []))
-cancels [] b h = absurd (omega arith)
-cancels (x ∷ xs) b h = refl
 
 alone : (s : Listener) (b : ℕ) → s ≡ emptyListener → _≡_ {A = Listener} (record { bytes = set (s .bytes) 0 b; held = 1 }) (holding (b ∷ []))
 alone s b e = rw (e, set-pad 17 [] 0 b refl (omega arith))
@@ -33,7 +30,7 @@ returns-2 c =
     let some : 0 < length (heldBytes l) = rw length-take (omega arith) in
     c .without-bytes2 .ensures
     ∙ ap (λ (s : Listener). quiet Cancelled s) (alone (w .empty-listener .result) (w .before .args .byte) (w .empty-listener .ensures))
-    ∙ sym (cancels (heldBytes l) (w .before .args .byte) some)
+    ∙ sym (command-cancels (heldBytes l) (w .before .args .byte) some)
 
 pub opened-spec : {M : Type 1} → statement M
 opened-spec =

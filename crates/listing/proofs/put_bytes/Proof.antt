@@ -1,4 +1,4 @@
--- `put_bytes` has put the first i bytes after i turns.
+-- `put_bytes` has put the first i bytes after i iterations.
 use borrow.Author.Needs.{needs}
 use mathlib.Core.Path.{_≡_}
 use Prim.Native.Nat.{_+_, _-_, _≤_}

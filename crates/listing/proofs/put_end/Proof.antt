@@ -2,8 +2,8 @@
 use borrow.Author.Needs.{needs}
 use borrow.Author.Tests.{lt-leb, le-leb}
 use native.Mathlib.Omega.{arith}
-use Rattle.listing.proofs.Put.{put-then, put-length, put-placed}
-use Rattle.listing.proofs.Lines.{stop-most}
+use Rattle.listing.proofs.Put.{put-then, put-length, put-stored}
+use Rattle.listing.proofs.Lines.{stop-most, end-most}
 use Rattle.listing.proofs.put_end.Statement.{statement}
 use Rattle.listing.proofs.put_end.Tie as tie
 
@@ -20,7 +20,10 @@ put-counts-requires c κs =
 
 returns-2 : tie.Need-returns-2
 returns-2 c =
-    rw (le-leb _ _ (c .before .before .before .before .before .before .before .before .before .before .before .if1 .left)) (put-placed (put-then (c .before .before .before .before .before .before .before .put-stop .ensures) (c .before .before .put-counts .ensures)))
+    let a = c .before .before .before .before .before .before .before .before .before .before .before .before .before .args in
+    rw (le-leb _ _ (c .before .before .before .before .before .before .before .before .before .before .before .if1 .left))
+    (put-stored (put-then (c .before .before .before .before .before .before .before .put-stop .ensures) (c .before .before .put-counts .ensures))
+    (omega (arith, end-most (a .progress) (a .stop))))
 
 pub put-end-spec : {M : Type 1} → statement M
 put-end-spec =

@@ -1,4 +1,4 @@
--- `put_hex` has put the first i bytes after i turns.
+-- `put_hex` has put the first i bytes after i iterations.
 use borrow.Author.Needs.{needs}
 use Prim.Native.Nat.{_-_, _≤_}
 use native.Mathlib.Omega.{arith}

@@ -1,4 +1,4 @@
--- `store_digits` stores two digits a turn, and then the one or two that are left.
+-- `store_digits` stores two digits at a time, and then the one or two that are left.
 use borrow.Author.Needs.{needs}
 use mathlib.Core.Path.{_∙_}
 use native.Mathlib.Omega.{arith}

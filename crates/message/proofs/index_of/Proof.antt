@@ -1,4 +1,4 @@
--- `index_of` looks at each row in turn: before row i the search of the whole table is that of the rows from i on.
+-- `index_of` looks at each row: before row i the search of the whole table is that of the rows from i on.
 use borrow.Author.Needs.{needs}
 use borrow.Author.Tests.{eq-eqb, ne-eqb}
 use mathlib.Core.Path.{_≡_, refl, sym, _∙_, ap}

@@ -1,4 +1,4 @@
--- `write_bytes` reads below the length, and each turn leaves one byte less.
+-- `write_bytes` reads below the length, and each iteration leaves one byte less.
 use Prim.Native.Nat.{_≤_, _-_}
 use lib.ListN.{length}
 use borrow.Author.Needs.{needs}

@@ -1,4 +1,4 @@
--- `write_fields` reads below 12, and each turn leaves one place less.
+-- `write_fields` reads below 12, and each iteration leaves one field less.
 use Prim.Native.Nat.{_≤_, _-_}
 use borrow.Author.Needs.{needs}
 use Rattle.reader_examples.proofs.write_fields.Statement.{statement}

@@ -1,4 +1,4 @@
--- `put` has pasted the first i bytes after i turns.
+-- `put` has pasted the first i bytes after i iterations.
 use mathlib.Core.Path.{_≡_, ap, _∙_}
 use Prim.Native.Nat.{_-_, _≤_}
 use native.Mathlib.Numerals.{add-one}

@@ -1,4 +1,4 @@
--- `move_down` has moved the first i bytes after i turns; those not moved yet stand where they stood.
+-- `move_down` has moved the first i bytes after i iterations; those not moved yet stand where they stood.
 use borrow.Author.Needs.{needs}
 use Prim.Native.Nat.{_-_, _≤_}
 use native.Mathlib.Omega.{arith}

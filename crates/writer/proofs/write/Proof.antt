@@ -1,4 +1,4 @@
--- `write` refuses by the verdict, and else lends the part from the place on; what comes back stands after the numbers before it.
+-- `write` refuses by the verdict, and else lends the part from the position on; what comes back stands after the numbers before it.
 use borrow.Author.Needs.{needs}
 use borrow.Author.Tests.{lt-leb}
 use Prim.Native.Nat.{ℕ}

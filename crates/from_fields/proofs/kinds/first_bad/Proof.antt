@@ -1,4 +1,4 @@
--- `first_bad` looks at each flag in turn: the first bad one is that among those from `k` on.
+-- `first_bad` looks at each flag: the first bad one is that among those from `k` on.
 use mathlib.Core.Path.{_≡_, refl, sym, _∙_}
 use mathlib.Core.List.{List}
 use Prim.Native.Nat.{ℕ, suc, _+_, _-_, _≤_, _<_}

@@ -1,4 +1,4 @@
--- `store` has laid out the first i fields after i turns.
+-- `store` has laid out the first i fields after i iterations.
 use mathlib.Core.Path.{_≡_, refl, ap, _∙_}
 use mathlib.Core.List.{List, [], _∷_, _++_}
 use Prim.Native.Nat.{ℕ, zero, suc, _-_, _*_, _≤_, _<_}

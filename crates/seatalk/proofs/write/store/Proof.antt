@@ -1,4 +1,4 @@
--- `store` has laid out the first i symbols after i turns.
+-- `store` has laid out the first i symbols after i iterations.
 use mathlib.Core.Path.{_≡_, refl, ap, _∙_}
 use mathlib.Core.List.{_++_}
 use Prim.Native.Nat.{_-_, _*_, _≤_}
