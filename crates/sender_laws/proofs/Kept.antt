@@ -13,7 +13,7 @@ use Rattle.sender_laws.specs.Run.{Terms, termsOf, Call, called, after}
 use Rattle.sender_laws.proofs.Sound.{moved, waiting-left, awaits}
 use Rattle.sender_laws.proofs.Moves.{Move, stays, starts, goes-on, finishes, waits-again, gives-up, move}
 
-pub move-sound : {s : Sender} {c : Call} {said : Outcome} → Move s c said → sound s ≡ true → sound (said .sender) ≡ true
+pub move-sound : {s : Sender} {c : Call} {o : Outcome} → Move s c o → sound s ≡ true → sound (o .sender) ≡ true
 move-sound (stays answer quiet unheard) h = h
 move-sound {s} (starts h e) also =
     moved s phase.Awaiting 0 (s .failures)
@@ -33,7 +33,7 @@ move-sound {s} (waits-again h e more) also =
 move-sound {s} (gives-up h e all) also =
     moved s phase.GaveUp 0 (s .failures + 1) (rw (eq-eqb (s .failures + 1) (s .limit) all)) h
 
-move-terms : {s : Sender} {c : Call} {said : Outcome} → Move s c said → termsOf (said .sender) ≡ termsOf s
+move-terms : {s : Sender} {c : Call} {o : Outcome} → Move s c o → termsOf (o .sender) ≡ termsOf s
 move-terms (stays answer quiet unheard) = refl
 move-terms (starts h e) = refl
 move-terms (goes-on h e more) = refl
@@ -41,7 +41,7 @@ move-terms (finishes h e end) = refl
 move-terms (waits-again h e more) = refl
 move-terms (gives-up h e all) = refl
 
-pub move-datagram : {s : Sender} {c : Call} {said : Outcome} → Move s c said → said .sender .datagram ≡ s .datagram
+pub move-datagram : {s : Sender} {c : Call} {o : Outcome} → Move s c o → o .sender .datagram ≡ s .datagram
 move-datagram m = ap (λ (t : Terms). t .datagram) (move-terms m)
 
 pub after-sound : (s : Sender) (calls : List Call) → sound s ≡ true → sound (after s calls) ≡ true

@@ -23,9 +23,9 @@ one-echo : (c : Call) (cs : List Call) → echoes (c ∷ cs) ≤ suc (echoes cs)
 one-echo (poll time last) cs = omega arith
 one-echo (echo symbol) cs = one-of-two (ltb 511 symbol) (omega arith) (omega arith)
 
-move-ends : {s : Sender} {c : Call} {said : Outcome} → Move s c said → (cs : List Call) → Ends (said .sender) cs
+move-ends : {s : Sender} {c : Call} {o : Outcome} → Move s c o → (cs : List Call) → Ends (o .sender) cs
     → sound s ≡ true → s .phase ≡ phase.Awaiting → lengthOf s ≤ s .position + echoes (c ∷ cs)
-    → (ends (said .answer) || someEnds (answers (said .sender) cs)) ≡ true
+    → (ends (o .answer) || someEnds (answers (o .sender) cs)) ≡ true
 move-ends {s} (stays answer quiet unheard) cs later h e k =
     rw (later h e (rw (unheard h e cs) at k)) (or-true (ends answer))
 move-ends (starts h f) cs later also e k = cc

@@ -29,8 +29,8 @@ sentIn s = sentOf (s .datagram) s
 next-sent : (xs : List ℕ) (i : ℕ) (later : List ℕ) → i < length xs → take i xs ++ (getD xs i 0 ∷ later) ≡ take (i + 1) xs ++ later
 next-sent xs i later h = rw (add-one i, take-suc xs i 0 h, append-assoc)
 
-move-sent : {s : Sender} {c : Call} {said : Outcome} → Move s c said → fails (said .answer) ≡ false → (later : List ℕ)
-    → sentIn s ++ withSent (said .answer) later ≡ sentIn (said .sender) ++ later
+move-sent : {s : Sender} {c : Call} {o : Outcome} → Move s c o → fails (o .answer) ≡ false → (later : List ℕ)
+    → sentIn s ++ withSent (o .answer) later ≡ sentIn (o .sender) ++ later
 move-sent (stays answer quiet unheard) n later = rw (quiet later)
 move-sent {s} (starts h e) n later =
     let full = facts s h .all-bytes in

@@ -29,9 +29,9 @@ data-symbol : (bytes : List ℕ) (i : ℕ) → allBytes bytes ≡ true → getD 
 data-symbol [] i b = omega arith
 data-symbol (x ∷ xs) i b = byte-at xs i (and-eq-true-iff (ltb x 256) (allBytes xs) .0 b .1)
 
-move-starts : {s : Sender} {c : Call} {said : Outcome} → Move s c said → allBytes (bytesOf s) ≡ true → (later : List ℕ)
-    → commands later ≤ startsLeft (said .sender .phase) (said .sender .failures) (said .sender .limit)
-    → commands (withSent (said .answer) later) ≤ startsLeft (s .phase) (s .failures) (s .limit)
+move-starts : {s : Sender} {c : Call} {o : Outcome} → Move s c o → allBytes (bytesOf s) ≡ true → (later : List ℕ)
+    → commands later ≤ startsLeft (o .sender .phase) (o .sender .failures) (o .sender .limit)
+    → commands (withSent (o .answer) later) ≤ startsLeft (s .phase) (s .failures) (s .limit)
 move-starts (stays answer quiet unheard) b later k = rw (quiet later) k
 move-starts {s} (starts h e) b later k =
     let left = waiting-left s h e in
