@@ -8,30 +8,6 @@ use Rattle.message.specs.Range.{rangeOf, andThen, within}
 use Rattle.message.proofs.range.range_of.Statement.{statement}
 use Rattle.message.proofs.range.range_of.Tie as tie
 
-returns : tie.Need-returns
-unfolding rangeOf
-returns c = c .at-most .ensures ∙ sym (ap rangeOf (c .before .before .m .given .1))
-
-returns-2 : tie.Need-returns-2
-unfolding rangeOf
-returns-2 c = c .at-most2 .ensures ∙ sym (ap rangeOf (c .before .before .m2 .given .1))
-
-returns-3 : tie.Need-returns-3
-unfolding rangeOf
-returns-3 c = c .at-most3 .ensures ∙ sym (ap rangeOf (c .before .before .m3 .given .1))
-
-returns-4 : tie.Need-returns-4
-unfolding rangeOf
-returns-4 c = c .at-most4 .ensures ∙ sym (ap rangeOf (c .before .before .m4 .given .1))
-
-returns-5 : tie.Need-returns-5
-unfolding rangeOf
-returns-5 c = c .at-most5 .ensures ∙ sym (ap rangeOf (c .before .before .m5 .given .1))
-
-returns-6 : tie.Need-returns-6
-unfolding rangeOf
-returns-6 c = c .at-most6 .ensures ∙ sym (ap rangeOf (c .before .before .m6 .given .1))
-
 returns-7 : tie.Need-returns-7
 unfolding rangeOf
 returns-7 c = c .first-of .ensures ∙ ap₂ andThen (c .before .before .at-most7 .ensures) (c .before .at-most8 .ensures) ∙ sym (ap rangeOf (c .before .before .before .before .m7 .given .1))
@@ -47,10 +23,6 @@ returns-9 c =
     let e : toZ w32 (ofZ w32 z) ≡ z = search needs in
     c .in-bounds .ensures ∙ ap (within 1 (negℤ (pos 100)) (pos 65435)) e ∙ sym (ap rangeOf (c .before .before .m9 .given .1))
 
-returns-10 : tie.Need-returns-10
-unfolding rangeOf
-returns-10 c = c .at-most11 .ensures ∙ sym (ap rangeOf (c .before .before .m10 .given .1))
-
 returns-11 : tie.Need-returns-11
 unfolding rangeOf
 returns-11 c = c .first-of3 .ensures ∙ ap₂ andThen (c .before .before .at-most12 .ensures) (c .before .at-most13 .ensures) ∙ sym (ap rangeOf (c .before .before .before .before .m11 .given .1))
@@ -58,14 +30,6 @@ returns-11 c = c .first-of3 .ensures ∙ ap₂ andThen (c .before .before .at-mo
 returns-12 : tie.Need-returns-12
 unfolding rangeOf
 returns-12 c = c .first-of4 .ensures ∙ ap₂ andThen (c .before .before .at-most14 .ensures) (c .before .at-most15 .ensures) ∙ sym (ap rangeOf (c .before .before .before .before .m12 .given .1))
-
-returns-13 : tie.Need-returns-13
-unfolding rangeOf
-returns-13 c = c .at-most16 .ensures ∙ sym (ap rangeOf (c .before .before .m13 .given .1))
-
-returns-14 : tie.Need-returns-14
-unfolding rangeOf
-returns-14 c = c .at-most17 .ensures ∙ sym (ap rangeOf (c .before .before .m14 .given .1))
 
 returns-15 : tie.Need-returns-15
 unfolding rangeOf
@@ -100,6 +64,7 @@ returns-20 c =
     ∙ sym (ap rangeOf (m .1))
 
 pub range-of-spec : {M : Type 1} → statement M
+unfolding rangeOf
 range-of-spec =
     tie.close
     (tie.spec (λ c. search needs) (λ c κs. search needs)
@@ -124,5 +89,23 @@ range-of-spec =
     (λ c. search needs) (λ c κs. search needs) (λ c κs. search needs) (λ c κs. search needs)
     (λ c. search needs) (λ c κs. search needs)
     (λ c. search needs) (λ c κs. search needs) (λ c κs. search needs) (λ c κs. search needs)
-    returns returns-2 returns-3 returns-4 returns-5 returns-6 returns-7 returns-8 returns-9 returns-10 returns-11
-    returns-12 returns-13 returns-14 returns-15 returns-16 returns-17 returns-18 returns-19 returns-20)
+    (λ c. c .at-most .ensures ∙ sym (ap rangeOf (c .before .before .m .given .1)))
+    (λ c. c .at-most2 .ensures ∙ sym (ap rangeOf (c .before .before .m2 .given .1)))
+    (λ c. c .at-most3 .ensures ∙ sym (ap rangeOf (c .before .before .m3 .given .1)))
+    (λ c. c .at-most4 .ensures ∙ sym (ap rangeOf (c .before .before .m4 .given .1)))
+    (λ c. c .at-most5 .ensures ∙ sym (ap rangeOf (c .before .before .m5 .given .1)))
+    (λ c. c .at-most6 .ensures ∙ sym (ap rangeOf (c .before .before .m6 .given .1)))
+    returns-7
+    returns-8
+    returns-9
+    (λ c. c .at-most11 .ensures ∙ sym (ap rangeOf (c .before .before .m10 .given .1)))
+    returns-11
+    returns-12
+    (λ c. c .at-most16 .ensures ∙ sym (ap rangeOf (c .before .before .m13 .given .1)))
+    (λ c. c .at-most17 .ensures ∙ sym (ap rangeOf (c .before .before .m14 .given .1)))
+    returns-15
+    returns-16
+    returns-17
+    returns-18
+    returns-19
+    returns-20)
