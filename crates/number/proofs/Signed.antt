@@ -1,15 +1,15 @@
--- Integers of either sign: a difference of words, a signed byte, and two's complement at 32 bits.
+-- Integers of either sign: a difference of words, a signed byte, and two's complement.
 use mathlib.Core.Path.{_≡_, refl, sym, _∙_, ap}
 use mathlib.Core.Bool.{Bool, true, false, cond}
-use Prim.Native.Nat.{ℕ, zero, suc, _+_, _-_, _%_, _≤_, _<_}
+use Prim.Native.Nat.{ℕ, zero, suc, _+_, _-_, _%_, _^_, _≤_, _<_}
 use native.Mathlib.Nat.{add-zero}
 use native.Mathlib.Omega.{arith}
 use borrow.Author.Tests.{lt-ltb, le-ltb}
 use lib.Dec.{ltb}
 use lib.IntN.{ℤ, pos, negsuc, negℤ, subℕ, _+ℤ_, _-ℤ_, +ℤ-idl}
 use lib.Signed.{mag, leZ}
-use mir.Syntax.{w8, w32, w64}
-use mir.Val.{SFits, toZ, ofZ}
+use mir.Syntax.{Width, w8, w32, w64}
+use mir.Val.{SFits, toZ, ofZ, hbits}
 use mir.ValLaws.{toZ-pos, toZ-ofZ}
 
 diff : (a b : ℕ) → pos a -ℤ pos b ≡ subℕ a b
@@ -58,6 +58,10 @@ wide z h = record { sfits = omega (arith, h .sfits) }
 -- the sum that `bits_of` makes, as the machine reads it back from its bits
 pub lifted : (z : ℤ) → SFits w32 z → pos 4294967296 +ℤ toZ w64 (ofZ w64 (toZ w32 (ofZ w32 z))) ≡ pos (lift z)
 lifted z h = rw (toZ-ofZ w32 z h, toZ-ofZ w64 z (wide z h)) (lifts z (h .sfits))
+
+-- a signed number handed from one call to another, as the machine reads it back from its bits
+pub handed : (w : Width) {z y : ℤ} → mag z < 2 ^ hbits w → z ≡ y → toZ w (ofZ w z) ≡ y
+handed w {z} h e = toZ-ofZ w z (record { sfits = h }) ∙ e
 
 -- a test of two 32-bit numbers, as the machine reads them back from their bits
 pub le-read : (a b : ℤ) (t : Bool) → SFits w32 a → SFits w32 b → leZ (toZ w32 (ofZ w32 a)) (toZ w32 (ofZ w32 b)) ≡ t → leZ a b ≡ t

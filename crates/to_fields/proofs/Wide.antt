@@ -1,5 +1,5 @@
 -- What a field is once it is widened to 64 bits: the same number.
-use mathlib.Core.Path.{_≡_, _∙_}
+use mathlib.Core.Path.{_≡_}
 use Prim.Native.Nat.{ℕ, _<_}
 use native.Mathlib.Omega.{arith}
 use lib.IntN.{ℤ, pos}
@@ -16,7 +16,3 @@ fits z h = rw (toZ-ofZ w32 z h) (wide z h)
 
 pub widened : (z : ℤ) → SFits w32 z → toZ w64 (ofZ w64 (toZ w32 (ofZ w32 z))) ≡ z
 widened z h = rw (toZ-ofZ w32 z h) (toZ-ofZ w64 z (wide z h))
-
--- a number handed from one call to another, as the machine reads it back from its bits
-pub handed : {z y : ℤ} → SFits w64 z → z ≡ y → toZ w64 (ofZ w64 z) ≡ y
-handed {z} h e = toZ-ofZ w64 z h ∙ e
