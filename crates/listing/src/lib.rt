@@ -264,11 +264,12 @@ fn put_signed(pairs: &[u8; 712], out: &mut [u8], at: usize, z: i32) -> usize
     ensures { λ r. ⌜ Put (now (out .entry)) at (spacedNumbers (z ∷ [])) (now (out .exit)) r ⌝ }
 {
     out[at] = 32;
+    let size = number::magnitude(z as i64);
     if z < 0 {
         out[at + 1] = 45;
-        put_decimal(pairs, out, at + 2, (-1 - z) as u64 + 1)
+        put_decimal(pairs, out, at + 2, size)
     } else {
-        put_decimal(pairs, out, at + 1, z as u64)
+        put_decimal(pairs, out, at + 1, size)
     }
 }
 

@@ -1,7 +1,7 @@
 // Bytes, words and two's complement: the arithmetic below every field.
 ghost use mathlib.Core.Path.{_≡_};
 ghost use Prim.Native.Nat.{_≤_};
-ghost use lib.IntN.{pos, negℤ, _-ℤ_};
+ghost use lib.IntN.{pos, negℤ, natAbs, _-ℤ_};
 ghost use mir.Syntax.{w8, w32};
 ghost use mir.Val.{toZ, ofZ};
 ghost use Rattle.number.specs.Word.{word, num};
@@ -46,6 +46,17 @@ pub fn negated_byte(b: u8) -> i32
         difference(0, b as u16)
     } else {
         difference(256, b as u16)
+    }
+}
+
+// How far a number is from 0; the lowest one too, whose negative does not fit.
+pub fn magnitude(z: i64) -> u64
+    ensures { λ r. ⌜ r ≡ natAbs z ⌝ }
+{
+    if z < 0 {
+        (-1 - z) as u64 + 1
+    } else {
+        z as u64
     }
 }
 

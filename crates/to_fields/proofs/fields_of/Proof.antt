@@ -1,20 +1,19 @@
 -- `fields_of` puts each kind's fields, widened to 64 bits, where its clause of the definition has them.
 use borrow.Author.Needs.{needs}
 use mir.Syntax.{w64}
-use Rattle.number.proofs.Signed.{handed}
+use Rattle.number.proofs.Signed.{handed, counted, wide-read, widened}
 use Rattle.message.specs.Fields.{fieldsOf}
-use Rattle.to_fields.proofs.Wide.{counted, fits, widened}
 use Rattle.to_fields.proofs.fields_of.Statement.{statement}
 use Rattle.to_fields.proofs.fields_of.Tie as tie
 
 cast-array-11 : tie.Need-cast-array-11
-cast-array-11 c = fits (c .before .m9 .given .0 .0) (search needs)
+cast-array-11 c = wide-read (c .before .m9 .given .0 .0) (search needs)
 
 cast-array-29 : tie.Need-cast-array-29
-cast-array-29 c = fits (c .before .m19 .given .0 .0) (search needs)
+cast-array-29 c = wide-read (c .before .m19 .given .0 .0) (search needs)
 
 cast-array-31 : tie.Need-cast-array-31
-cast-array-31 c = fits (c .before .before .m20 .given .0 .1 .1 .0) (search needs)
+cast-array-31 c = wide-read (c .before .before .m20 .given .0 .1 .1 .0) (search needs)
 
 returns : tie.Need-returns
 unfolding fieldsOf
