@@ -4,13 +4,20 @@ ghost use Prim.Native.Nat.{_≤_};
 ghost use lib.IntN.{pos, negℤ, natAbs, _-ℤ_};
 ghost use mir.Syntax.{w8, w32};
 ghost use mir.Val.{toZ, ofZ};
-ghost use Rattle.number.specs.Word.{word, num};
+ghost use Rattle.number.specs.Word.{word, long, num};
 
 // The word of two bytes, the low one first.
 pub fn word_of(low: u8, high: u8) -> u32
     ensures { λ r. ⌜ r ≡ word low high ⌝ }
 {
     low as u32 + 256 * (high as u32)
+}
+
+// The 32 bits of four bytes, the low one first.
+pub fn long_of(a: u8, b: u8, c: u8, d: u8) -> u32
+    ensures { λ r. ⌜ r ≡ long a b c d ⌝ }
+{
+    word_of(a, b) + 65536 * word_of(c, d)
 }
 
 // A flag as 1 or 0.
