@@ -1,4 +1,5 @@
 // The records ahead of a listener: heard one by one, or several at once where a look at them tells what it would answer.
+use number::long_of;
 use number::word_of;
 use progress::Progress;
 use progress::Stop;
@@ -72,7 +73,7 @@ fn time_at(input: &[u8], at: usize) -> u32
     requires { ⌜ at + 8 ≤ length (now input) ⌝ }
     ensures { λ r. ⌜ r ≡ timeAt (now (input .entry)) at ⌝ }
 {
-    word_of(input[at + 2], input[at + 3]) + 65536 * word_of(input[at + 4], input[at + 5])
+    long_of(input[at + 2], input[at + 3], input[at + 4], input[at + 5])
 }
 
 // Whether the record at an offset has the mark and carries a byte, with the command bit or without.

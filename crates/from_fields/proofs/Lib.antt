@@ -2,4 +2,3 @@ pub mod Places
 pub mod Flags
 pub mod Rows
 pub mod Each
-pub mod Signs

@@ -7,12 +7,13 @@ use lib.IntN.{pos}
 use lib.ListN.{length, getD, take}
 use mir.Syntax.{w32}
 use mir.Val.{toZ}
-use Rattle.from_fields.specs.Numbers.{numbersOf, fourBytes}
+use Rattle.number.specs.Word.{long}
+use Rattle.from_fields.specs.Numbers.{numbersOf}
 use Rattle.from_fields.specs.Naming.{signed}
 
 -- the 32 bits from a place on
 abbrev pub bitsFrom : List ℕ → ℕ → ℕ
-bitsFrom fs at = fourBytes (getD fs at 0) (getD fs (at + 1) 0) (getD fs (at + 2) 0) (getD fs (at + 3) 0)
+bitsFrom fs at = long (getD fs at 0) (getD fs (at + 1) 0) (getD fs (at + 2) 0) (getD fs (at + 3) 0)
 
 pub within : (fs : List ℕ) (i : ℕ) → 4 * i + 4 ≤ length fs → signed (numbersOf fs) i ≡ toZ w32 (bitsFrom fs (4 * i))
 within [] i h = absurd (omega arith)

@@ -1,9 +1,10 @@
 -- Fields as the C host lays them out: 4 bytes each, signed, low byte first (rules 11.2).
-use Prim.Native.Nat.{ℕ, _+_, _*_, _/_, _%_}
+use Prim.Native.Nat.{ℕ, _/_, _%_}
 use mathlib.Core.List.{List, [], _∷_, _++_}
 use lib.IntN.{ℤ}
 use mir.Syntax.{w32}
 use mir.Val.{SFits, toZ, ofZ}
+use Rattle.number.specs.Word.{long}
 
 -- the four bytes of 32 bits
 abbrev pub wordBytes : ℕ → List ℕ
@@ -25,14 +26,10 @@ fieldBytes z = wordBytes (ofZ w32 z)
 abbrev pub fieldsBytes : List ℤ → List ℕ
 fieldsBytes zs = each fieldBytes zs
 
--- the 32 bits of four bytes
-abbrev pub fourBytes : ℕ → ℕ → ℕ → ℕ → ℕ
-fourBytes a b c d = a + 256 * b + 65536 * c + 16777216 * d
-
 -- the numbers that bytes say, four bytes each
 abbrev pub numbersOf : List ℕ → List ℤ
 numbersOf [] = []
 numbersOf (a ∷ []) = []
 numbersOf (a ∷ b ∷ []) = []
 numbersOf (a ∷ b ∷ c ∷ []) = []
-numbersOf (a ∷ b ∷ c ∷ d ∷ rest) = toZ w32 (fourBytes a b c d) ∷ numbersOf rest
+numbersOf (a ∷ b ∷ c ∷ d ∷ rest) = toZ w32 (long a b c d) ∷ numbersOf rest

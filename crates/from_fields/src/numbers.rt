@@ -1,4 +1,5 @@
 // One number of the fields' bytes: with its sign, without, and as a flag.
+use number::long_of;
 ghost use mathlib.Core.Path.{_≡_};
 ghost use mir.Syntax.{w32};
 ghost use mir.Val.{toZ};
@@ -13,10 +14,7 @@ fn bits_at(fields: &[u8], i: u8) -> u32
     if fields.len() < at + 4 {
         return 0;
     }
-    fields[at] as u32
-        + 256 * (fields[at + 1] as u32)
-        + 65536 * (fields[at + 2] as u32)
-        + 16777216 * (fields[at + 3] as u32)
+    long_of(fields[at], fields[at + 1], fields[at + 2], fields[at + 3])
 }
 
 // Field i without its sign.

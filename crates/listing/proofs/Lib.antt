@@ -3,7 +3,6 @@ pub mod Lines
 pub mod Pairs
 pub mod Put
 pub mod Short
-pub mod Sign
 pub mod Spaced
 pub mod Times
 pub mod Walks

@@ -38,12 +38,7 @@ fn put_bytes(out: &mut [u8], at: usize, text: &[u8]) -> usize
     requires { ⌜ at + length (now text) ≤ length (now out) ⌝ }
     ensures { λ r. ⌜ Put (now (out .entry)) at (now (text .entry)) (now (out .exit)) r ⌝ }
 {
-    let mut i = 0;
-    while i < text.len() {
-        out[at + i] = text[i];
-        i += 1;
-    }
-    at + i
+    at + bytes::copy(text, &mut out[at..])
 }
 
 // The two hex digits of each byte, and behind them the two decimal digits of each number below 100. It is laid out once
@@ -264,11 +259,12 @@ fn put_signed(pairs: &[u8; 712], out: &mut [u8], at: usize, z: i32) -> usize
     ensures { λ r. ⌜ Put (now (out .entry)) at (spacedNumbers (z ∷ [])) (now (out .exit)) r ⌝ }
 {
     out[at] = 32;
+    let size = number::magnitude(z as i64);
     if z < 0 {
         out[at + 1] = 45;
-        put_decimal(pairs, out, at + 2, (-1 - z) as u64 + 1)
+        put_decimal(pairs, out, at + 2, size)
     } else {
-        put_decimal(pairs, out, at + 1, z as u64)
+        put_decimal(pairs, out, at + 1, size)
     }
 }
 

@@ -1,15 +1,15 @@
--- Integers of either sign: a difference of words, a signed byte, and two's complement at 32 bits.
+-- Integers of either sign: a difference of words, a signed byte, and two's complement.
 use mathlib.Core.Path.{_≡_, refl, sym, _∙_, ap}
 use mathlib.Core.Bool.{Bool, true, false, cond}
-use Prim.Native.Nat.{ℕ, zero, suc, _+_, _-_, _%_, _≤_, _<_}
+use Prim.Native.Nat.{ℕ, zero, suc, _+_, _-_, _%_, _^_, _≤_, _<_}
 use native.Mathlib.Nat.{add-zero}
 use native.Mathlib.Omega.{arith}
-use borrow.Author.Tests.{lt-ltb, le-ltb}
+use borrow.Author.Tests.{lt-ltb, le-ltb, ltb-true}
 use lib.Dec.{ltb}
 use lib.IntN.{ℤ, pos, negsuc, negℤ, subℕ, _+ℤ_, _-ℤ_, +ℤ-idl}
-use lib.Signed.{mag, leZ}
-use mir.Syntax.{w8, w32, w64}
-use mir.Val.{SFits, toZ, ofZ}
+use lib.Signed.{mag, leZ, ltZ}
+use mir.Syntax.{Width, w8, w32, w64}
+use mir.Val.{SFits, toZ, ofZ, hbits}
 use mir.ValLaws.{toZ-pos, toZ-ofZ}
 
 diff : (a b : ℕ) → pos a -ℤ pos b ≡ subℕ a b
@@ -52,12 +52,42 @@ pub lift-bits : (z : ℤ) → mag z < 2147483648 → lift z % 4294967296 ≡ ofZ
 lift-bits (pos n) h = omega arith
 lift-bits (negsuc n) h = omega arith
 
+-- numbers of 32 bits widened to 64, as the machine reads them back from their bits: the same
+pub counted : (n : ℕ) → n < 4294967296 → toZ w64 n ≡ pos n
+counted n h = toZ-pos w64 n (omega arith)
+
 pub wide : (z : ℤ) → SFits w32 z → SFits w64 z
 wide z h = record { sfits = omega (arith, h .sfits) }
 
+pub wide-read : (z : ℤ) → SFits w32 z → SFits w64 (toZ w32 (ofZ w32 z))
+wide-read z h = rw (toZ-ofZ w32 z h) (wide z h)
+
+pub widened : (z : ℤ) → SFits w32 z → toZ w64 (ofZ w64 (toZ w32 (ofZ w32 z))) ≡ z
+widened z h = rw (toZ-ofZ w32 z h) (toZ-ofZ w64 z (wide z h))
+
 -- the sum that `bits_of` makes, as the machine reads it back from its bits
 pub lifted : (z : ℤ) → SFits w32 z → pos 4294967296 +ℤ toZ w64 (ofZ w64 (toZ w32 (ofZ w32 z))) ≡ pos (lift z)
-lifted z h = rw (toZ-ofZ w32 z h, toZ-ofZ w64 z (wide z h)) (lifts z (h .sfits))
+lifted z h = rw (widened z h) (lifts z (h .sfits))
+
+-- a signed number handed from one call to another, as the machine reads it back from its bits
+pub handed : (w : Width) {z y : ℤ} → mag z < 2 ^ hbits w → z ≡ y → toZ w (ofZ w z) ≡ y
+handed w {z} h e = toZ-ofZ w z (record { sfits = h }) ∙ e
+
+-- the sign of a number, as a test of what the machine reads back from its bits shows it
+module _ (w : Width) (z : ℤ) (fits : SFits w z) where
+  pub below-zero : ltZ (toZ w (ofZ w z)) (pos 0) ≡ true → z ≡ negsuc (mag z)
+  below-zero t = go z (rw (toZ-ofZ w z fits) at t)
+    where
+      go : (y : ℤ) → ltZ y (pos 0) ≡ true → y ≡ negsuc (mag y)
+      go (pos n) t = absurd (omega (arith, ltb-true n 0 t))
+      go (negsuc n) t = refl
+
+  pub from-zero : ltZ (toZ w (ofZ w z)) (pos 0) ≡ false → z ≡ pos (mag z)
+  from-zero t = go z (rw (toZ-ofZ w z fits) at t)
+    where
+      go : (y : ℤ) → ltZ y (pos 0) ≡ false → y ≡ pos (mag y)
+      go (pos n) t = refl
+      go (negsuc n) t = let e : true ≡ false = t in cc
 
 -- a test of two 32-bit numbers, as the machine reads them back from their bits
 pub le-read : (a b : ℤ) (t : Bool) → SFits w32 a → SFits w32 b → leZ (toZ w32 (ofZ w32 a)) (toZ w32 (ofZ w32 b)) ≡ t → leZ a b ≡ t

@@ -1,4 +1,4 @@
--- Words of two bytes, and the bits of a byte.
+-- Words of two bytes and of four, and the bits of a byte.
 use Prim.Native.Nat.{ℕ, _+_, _*_, _/_, _%_}
 use mathlib.Core.Bool.{Bool, true, false}
 use lib.Dec.{eqb}
@@ -6,6 +6,10 @@ use lib.Dec.{eqb}
 -- the low byte first
 abbrev pub word : ℕ → ℕ → ℕ
 word low high = low + 256 * high
+
+-- four bytes, the low one first
+abbrev pub long : ℕ → ℕ → ℕ → ℕ → ℕ
+long a b c d = word a b + 65536 * word c d
 
 -- the two bytes of a word
 abbrev pub lowByte : ℕ → ℕ

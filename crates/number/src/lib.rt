@@ -1,16 +1,23 @@
 // Bytes, words and two's complement: the arithmetic below every field.
 ghost use mathlib.Core.Path.{_≡_};
 ghost use Prim.Native.Nat.{_≤_};
-ghost use lib.IntN.{pos, negℤ, _-ℤ_};
+ghost use lib.IntN.{pos, negℤ, natAbs, _-ℤ_};
 ghost use mir.Syntax.{w8, w32};
 ghost use mir.Val.{toZ, ofZ};
-ghost use Rattle.number.specs.Word.{word, num};
+ghost use Rattle.number.specs.Word.{word, long, num};
 
 // The word of two bytes, the low one first.
 pub fn word_of(low: u8, high: u8) -> u32
     ensures { λ r. ⌜ r ≡ word low high ⌝ }
 {
     low as u32 + 256 * (high as u32)
+}
+
+// The 32 bits of four bytes, the low one first.
+pub fn long_of(a: u8, b: u8, c: u8, d: u8) -> u32
+    ensures { λ r. ⌜ r ≡ long a b c d ⌝ }
+{
+    word_of(a, b) + 65536 * word_of(c, d)
 }
 
 // A flag as 1 or 0.
@@ -47,6 +54,13 @@ pub fn negated_byte(b: u8) -> i32
     } else {
         difference(256, b as u16)
     }
+}
+
+// How far a number is from 0; the lowest one too, whose negative does not fit.
+pub fn magnitude(z: i64) -> u64
+    ensures { λ r. ⌜ r ≡ natAbs z ⌝ }
+{
+    if z < 0 { (-1 - z) as u64 + 1 } else { z as u64 }
 }
 
 // The two's complement of a signed number.

@@ -4,7 +4,6 @@ use message::Reading;
 use to_fields::Fields;
 ghost use mathlib.Core.Path.{_≡_};
 ghost use Prim.Native.Nat.{_<_};
-ghost use lib.IntN.{natAbs};
 ghost use Rattle.reader_examples.specs.Examples.{outcomeOf};
 ghost use Rattle.reader_examples.specs.Rows.{rowOf, exampleAt, refusalIn};
 
@@ -193,15 +192,5 @@ fn write_number(z: i64) {
     if z < 0 {
         io::write_all(STDOUT_FILENO, b"-");
     }
-    io::print_decimal(STDOUT_FILENO, magnitude(z));
-}
-
-fn magnitude(z: i64) -> u64
-    ensures { λ r. ⌜ r ≡ natAbs z ⌝ }
-{
-    if z < 0 {
-        (-(z + 1)) as u64 + 1
-    } else {
-        z as u64
-    }
+    io::print_decimal(STDOUT_FILENO, number::magnitude(z));
 }

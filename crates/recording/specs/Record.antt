@@ -1,11 +1,11 @@
 -- A record is the mark 53 54, the time as 32 bits and the symbol as 16 bits, low byte first (rules 9).
-use Prim.Native.Nat.{ℕ, _+_, _-_, _*_}
+use Prim.Native.Nat.{ℕ, _+_, _-_}
 use mathlib.Core.Bool.{_&&_, cond}
 use mathlib.Core.List.{List}
 use lib.Dec.{leb, eqb}
 use lib.ListN.{length, getD}
 use Rattle.datagram.specs.Refusals.{noMark, cutShort, symbolAboveAt}
-use Rattle.number.specs.Word.{word}
+use Rattle.number.specs.Word.{word, long}
 use Rattle.recording.specs.declared.Record.{Record}
 use Rattle.recording.specs.declared.Record.the-variants.{Heard, End, Refused}
 
@@ -14,7 +14,7 @@ abbrev pub byteOf : List ℕ → ℕ → ℕ → ℕ
 byteOf s at i = getD s (at + i) 0
 
 abbrev pub timeAt : List ℕ → ℕ → ℕ
-timeAt s at = word (byteOf s at 2) (byteOf s at 3) + 65536 * word (byteOf s at 4) (byteOf s at 5)
+timeAt s at = long (byteOf s at 2) (byteOf s at 3) (byteOf s at 4) (byteOf s at 5)
 
 abbrev pub symbolAt : List ℕ → ℕ → ℕ
 symbolAt s at = word (byteOf s at 6) (byteOf s at 7)

@@ -3,9 +3,9 @@ use datagram::Refusal;
 use datagram::refusals::cut_short;
 use datagram::refusals::no_mark;
 use datagram::refusals::symbol_above_at;
+use number::long_of;
 use number::word_of;
 ghost use mathlib.Core.Path.{_≡_};
-ghost use Prim.Native.Nat.{_+_, _*_, _<_};
 ghost use Rattle.recording.specs.Record.{recordOf, judgedRecord};
 
 // What stands at an offset of a recording.
@@ -33,16 +33,14 @@ pub fn record_at(bytes: &[u8], at: usize) -> Record
         at,
         bytes[at],
         bytes[at + 1],
-        word_of(bytes[at + 2], bytes[at + 3]),
-        word_of(bytes[at + 4], bytes[at + 5]),
+        long_of(bytes[at + 2], bytes[at + 3], bytes[at + 4], bytes[at + 5]),
         word_of(bytes[at + 6], bytes[at + 7]),
     )
 }
 
-// The record of a mark, the two words of the time and the symbol's word.
-fn judged(at: usize, mark: u8, second: u8, low: u32, high: u32, symbol: u32) -> Record
-    requires { ⌜ (low < 65536) × ((high < 65536) × (symbol < 65536)) ⌝ }
-    ensures { λ r. ⌜ r ≡ judgedRecord at mark second (low + 65536 * high) symbol ⌝ }
+// The record of a mark, a time and the symbol's word.
+fn judged(at: usize, mark: u8, second: u8, time: u32, symbol: u32) -> Record
+    ensures { λ r. ⌜ r ≡ judgedRecord at mark second time symbol ⌝ }
 {
     if mark != 0x53 {
         return Record::Refused(no_mark(at));
@@ -54,7 +52,7 @@ fn judged(at: usize, mark: u8, second: u8, low: u32, high: u32, symbol: u32) -> 
         return Record::Refused(symbol_above_at(at));
     }
     Record::Heard {
-        time: low + 65536 * high,
+        time: time,
         symbol: symbol as u16,
     }
 }

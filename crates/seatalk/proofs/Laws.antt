@@ -12,7 +12,7 @@ use lib.ListN.{length}
 use mir.Syntax.{w32}
 use mir.Val.{toZ, ofZ}
 use mir.ValLaws.{toZ-ofZ, ofZ-fits}
-use Rattle.number.specs.Word.{num}
+use Rattle.number.specs.Word.{long, num}
 use Rattle.message.specs.declared.Lookup.{Lookup}
 use Rattle.message.specs.declared.Message.{Message}
 use Rattle.message.specs.declared.Message.the-variants.{Depth, WindAngle, WindSpeed, Speed, Trip, Total, Logs, Speeds, Water, Lamp, Latitude, Longitude, Ground, Course, Time, Date, Key, Heading, Variation, Turn}
@@ -23,7 +23,7 @@ use Rattle.message.specs.Reading.{byte}
 use Rattle.message.specs.Spelling.{bytesOf}
 use Rattle.message.specs.Table.{findOf}
 use Rattle.from_fields.specs.declared.Naming.the-variants.{Named}
-use Rattle.from_fields.specs.Numbers.{AllFit, fourBytes, fieldBytes, fieldsBytes, numbersOf}
+use Rattle.from_fields.specs.Numbers.{AllFit, fieldBytes, fieldsBytes, numbersOf}
 use Rattle.from_fields.specs.Naming.{countOf, flagsOf, messageOf, badFlag, namedAs, namedOf}
 use Rattle.from_fields.proofs.Each.{each-length}
 use Rattle.roundtrip_laws.proofs.Rows.{finds}
@@ -34,7 +34,7 @@ parts : (n : ℕ) → n % 256 + 256 * (n / 256) ≡ n
 parts n = omega arith
 
 -- four bytes say the number that was laid out in them
-together : (n : ℕ) → n < 4294967296 → fourBytes (n % 256) (n / 256 % 256) (n / 65536 % 256) (n / 16777216 % 256) ≡ n
+together : (n : ℕ) → n < 4294967296 → long (n % 256) (n / 256 % 256) (n / 65536 % 256) (n / 16777216 % 256) ≡ n
 together n h =
     let first = parts n in
     let second : n / 256 % 256 + 256 * (n / 65536) ≡ n / 256 = rw (div-div-eq-div-mul n 256 256) at (parts (n / 256)) in

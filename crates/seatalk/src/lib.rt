@@ -51,11 +51,7 @@ fn put(lent: &mut [u8], at: usize, bytes: &[u8])
     requires { ⌜ at + length (now bytes) ≤ length (now lent) ⌝ }
     ensures { λ _. ⌜ now (lent .exit) ≡ paste (now (lent .entry)) at (now (bytes .entry)) (length (now (bytes .entry))) ⌝ }
 {
-    let mut i = 0;
-    while i < bytes.len() {
-        lent[at + i] = bytes[i];
-        i += 1;
-    }
+    bytes::copy(bytes, &mut lent[at..]);
 }
 
 // Puts the four bytes of 32 bits from a position on, low byte first.

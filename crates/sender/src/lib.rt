@@ -247,11 +247,7 @@ fn padded(bytes: &[u8]) -> [u8; 18]
     ensures { λ r. ⌜ r ≡ padTo 18 (now (bytes .entry)) ⌝ }
 {
     let mut out = [0u8; 18];
-    let mut i = 0;
-    while i < bytes.len() {
-        out[i] = bytes[i];
-        i += 1;
-    }
+    bytes::copy(bytes, &mut out);
     out
 }
 

@@ -1,17 +1,18 @@
 -- Symbols stored one after the other at the front of a part are what the definition stores there.
 use mathlib.Core.Path.{_≡_, refl, ap, _∙_}
 use mathlib.Core.Bool.{Bool, true, false, cond}
-use mathlib.Core.List.{List, [], _++_, append-nil}
+use mathlib.Core.List.{List, _++_, append-nil}
 use Prim.Native.Nat.{ℕ, _+_, _-_, _≤_, _<_}
 use native.Mathlib.Nat.{zero-add}
 use native.Mathlib.Omega.{arith}
 use lib.Dec.{leb}
-use lib.ListN.{length, take, drop, length-drop, take-append-drop, drop-of-length-le}
-use lib.Seq.{sets, sets-eq, take-all, drop-drop}
+use lib.ListN.{length, take, drop, length-drop, take-append-drop}
+use lib.Seq.{sets, sets-eq, drop-drop}
 use borrow.Author.Tests.{le-leb, lt-leb}
 use Rattle.datagram.specs.Refusals.{noRoom}
 use Rattle.datagram.specs.Whole.{symbols}
 use Rattle.datagram.proofs.Whole.{as-many}
+use Rattle.number.proofs.Lent.{whole, none-behind}
 use Rattle.message.specs.declared.Verdict.the-variants.{InRange}
 use Rattle.writer.specs.declared.Written.{Written}
 use Rattle.writer.specs.declared.Written.the-variants.{Wrote, Refused}
@@ -39,9 +40,6 @@ module _ (bytes buffer : List ℕ) (at : ℕ) where
   pub home : (r : Written) (part : List ℕ) → at ≤ length buffer → outcome r part ≡ storeOf bytes (take (length buffer - at) (drop at buffer))
       → outcome r (take at buffer ++ (part ++ drop (length buffer - at) (drop at buffer))) ≡ ruledWrite InRange bytes buffer at
   home r part h e =
-      let n : length (drop at buffer) ≡ length buffer - at = length-drop at buffer in
-      let whole : take (length buffer - at) (drop at buffer) ≡ drop at buffer = take-all (length buffer - at) (drop at buffer) (omega arith) in
-      let none : drop (length buffer - at) (drop at buffer) ≡ [] = drop-of-length-le (drop at buffer) {i = length buffer - at} (omega arith) in
-      let f : outcome r part ≡ storeOf bytes (drop at buffer) = e ∙ ap (storeOf bytes) whole in
-      rw (none, append-nil, le-leb at (length buffer) h, ← n)
+      let f : outcome r part ≡ storeOf bytes (drop at buffer) = e ∙ ap (storeOf bytes) (whole buffer at) in
+      rw (none-behind buffer at, append-nil, le-leb at (length buffer) h, ← length-drop at buffer)
       (ap (λ (o : Outcome). outcome (o .answer) (take at buffer ++ o .buffer)) f ∙ stays (leb (length bytes) (length (drop at buffer))) refl)

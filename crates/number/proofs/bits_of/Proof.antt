@@ -2,15 +2,15 @@
 use borrow.Author.Needs.{needs}
 use mathlib.Core.Path.{sym, subst}
 use native.Mathlib.Omega.{arith}
-use mir.Syntax.{w32, w64}
+use mir.Syntax.{w64}
 use mir.Val.{SFits}
-use mir.ValLaws.{toZ-ofZ, toZ-pos}
-use Rattle.number.proofs.Signed.{lift, lift-small, lift-bits, wide, lifted}
+use mir.ValLaws.{toZ-pos}
+use Rattle.number.proofs.Signed.{lift, lift-small, lift-bits, wide-read, lifted}
 use Rattle.number.proofs.bits_of.Statement.{statement}
 use Rattle.number.proofs.bits_of.Tie as tie
 
 cast-result : tie.Need-cast-result
-cast-result c = rw (toZ-ofZ w32 (c .args .z) (c .fits .z)) (wide (c .args .z) (c .fits .z))
+cast-result c = wide-read (c .args .z) (c .fits .z)
 
 add-result : tie.Need-add-result
 add-result c =

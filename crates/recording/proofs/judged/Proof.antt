@@ -1,7 +1,7 @@
 -- `judged` makes the definition's tests of the mark and the symbol, in that order.
 use borrow.Author.Needs.{needs}
 use borrow.Author.Tests.{eq-eqb, ne-eqb, le-leb, lt-leb}
-use Prim.Native.Nat.{ℕ, _+_, _*_}
+use Prim.Native.Nat.{ℕ}
 use mathlib.Core.Path.{_≡_, sym, ap, _∙_}
 use mathlib.Core.Bool.{false, _&&_}
 use native.Mathlib.Omega.{arith}
@@ -20,14 +20,14 @@ returns : tie.Need-returns
 returns c =
     let a = c .before .before .args in
     ap Refused (c .no-mark .ensures)
-    ∙ sym (unmarked (a .at) (a .mark) (a .second) (a .low + 65536 * a .high) (a .symbol) (rw (ne-eqb (a .mark) 0x53 (λ e. omega (arith, c .before .if1 .taken)))))
+    ∙ sym (unmarked (a .at) (a .mark) (a .second) (a .time) (a .symbol) (rw (ne-eqb (a .mark) 0x53 (λ e. omega (arith, c .before .if1 .taken)))))
 
 returns-2 : tie.Need-returns-2
 returns-2 c =
     let start = c .before .before .before in
     let a = start .args in
     ap Refused (c .no-mark2 .ensures)
-    ∙ sym (unmarked (a .at) (a .mark) (a .second) (a .low + 65536 * a .high) (a .symbol) (rw (eq-eqb (a .mark) 0x53 (omega arith), ne-eqb (a .second) 0x54 (λ e. omega (arith, c .before .if2 .taken)))))
+    ∙ sym (unmarked (a .at) (a .mark) (a .second) (a .time) (a .symbol) (rw (eq-eqb (a .mark) 0x53 (omega arith), ne-eqb (a .second) 0x54 (λ e. omega (arith, c .before .if2 .taken)))))
 
 returns-3 : tie.Need-returns-3
 returns-3 c =
@@ -44,4 +44,4 @@ pub judged-spec : {M : Type 1} → statement M
 judged-spec =
     tie.close
     (tie.spec (λ c κs. search needs) returns (λ c κs. search needs) returns-2 (λ c κs. search needs) returns-3
-    (λ c. search needs) (λ c. search needs) (λ c. search needs) returns-4)
+    (λ c. search needs) returns-4)

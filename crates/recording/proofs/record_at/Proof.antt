@@ -3,8 +3,7 @@ use borrow.Author.Needs.{needs}
 use borrow.Author.Tests.{eq-eqb, ne-eqb, le-leb, lt-leb}
 use mathlib.Core.Path.{_≡_, sym, ap, _∙_}
 use mathlib.Core.List.{List}
-use Prim.Native.Nat.{ℕ, _+_, _-_, _≤_, _<_}
-use native.Mathlib.Omega.{arith}
+use Prim.Native.Nat.{ℕ, _-_, _≤_, _<_}
 use denote.Ref.{now}
 use lib.ListN.{length}
 use Rattle.datagram.specs.Refusals.{cutShort}
@@ -32,21 +31,16 @@ returns-3 c =
     ap Refused (c .cut-short2 .ensures)
     ∙ sym (cut (now (a .bytes)) (a .at) (c .before .before .before .if1 .left) (c .before .before .if2 .left) (c .before .if3 .taken))
 
-judged-requires : tie.Need-judged-requires
-judged-requires c κs =
-    omega (arith, c .word-of3 .ensures, c .before .before .before .word-of2 .ensures, c .before .before .before .before .before .before .word-of .ensures, c .before .shared-slice-known9 .given (c .before .before .before .before .before .before .before .before .before .before .before .before .before .before .before .args .at + 7), c .before .before .shared-slice-known8 .given (c .before .before .before .before .before .before .before .before .before .before .before .before .before .before .before .args .at + 6), c .before .before .before .before .shared-slice-known7 .given (c .before .before .before .before .before .before .before .before .before .before .before .before .before .before .before .args .at + 5), c .before .before .before .before .before .shared-slice-known6 .given (c .before .before .before .before .before .before .before .before .before .before .before .before .before .before .before .args .at + 4), c .before .before .before .before .before .before .before .shared-slice-known5 .given (c .before .before .before .before .before .before .before .before .before .before .before .before .before .before .before .args .at + 3), c .before .before .before .before .before .before .before .before .shared-slice-known4 .given (c .before .before .before .before .before .before .before .before .before .before .before .before .before .before .before .args .at + 2))
-
 returns-4 : tie.Need-returns-4
 unfolding recordOf
 returns-4 c =
     c .judged .ensures
     ∙ rw (
-      c .before .word-of3 .ensures,
-      c .before .before .before .before .word-of2 .ensures,
-      c .before .before .before .before .before .before .before .word-of .ensures,
-      le-leb _ _ (c .before .before .before .before .before .before .before .before .before .before .before .before .before .before .if1 .left),
-      ne-eqb _ _ (c .before .before .before .before .before .before .before .before .before .before .before .before .before .if2 .left),
-      le-leb _ _ (c .before .before .before .before .before .before .before .before .before .before .before .before .if3 .left),
+      c .before .word-of .ensures,
+      c .before .before .before .before .long-of .ensures,
+      le-leb _ _ (c .before .before .before .before .before .before .before .before .before .before .before .before .before .if1 .left),
+      ne-eqb _ _ (c .before .before .before .before .before .before .before .before .before .before .before .before .if2 .left),
+      le-leb _ _ (c .before .before .before .before .before .before .before .before .before .before .before .if3 .left),
     )
 
 pub record-at-spec : {M : Type 1} → statement M
@@ -54,6 +48,6 @@ record-at-spec =
     tie.close
     (tie.spec (λ c κs. search needs) returns returns-2 (λ c κs. search needs) returns-3 (λ c. search needs)
     (λ c. search needs) (λ c. search needs) (λ c. search needs) (λ c. search needs) (λ c. search needs)
-    (λ c. search needs) (λ c κs. search needs) (λ c. search needs) (λ c. search needs) (λ c. search needs)
-    (λ c. search needs) (λ c κs. search needs) (λ c. search needs) (λ c. search needs) (λ c. search needs)
-    (λ c. search needs) (λ c κs. search needs) judged-requires returns-4)
+    (λ c. search needs) (λ c. search needs) (λ c. search needs) (λ c. search needs) (λ c. search needs)
+    (λ c κs. search needs) (λ c. search needs) (λ c. search needs) (λ c. search needs)
+    (λ c. search needs) (λ c κs. search needs) (λ c κs. search needs) returns-4)

@@ -1,45 +1,28 @@
--- `padded` copies the bytes into zeros.
--- The loop's invariant: `out` is the first `i` bytes, padded. The measure is what is left of the bytes.
+-- `padded` copies the bytes into zeros: what is left of the zeros stands behind them.
 use borrow.Author.Needs.{needs}
-use Prim.Native.Nat.{ℕ, _+_, _-_, _≤_, _<_}
-use mathlib.Core.Path.{_≡_, ap, _∙_}
-use mathlib.Core.List.{List}
-use native.Mathlib.Numerals.{add-one}
+use Prim.Native.Nat.{ℕ, _+_, _-_, _≤_}
+use mathlib.Core.Path.{_≡_, sym, ap, _∙_}
+use mathlib.Core.List.{List, _++_}
 use native.Mathlib.Omega.{arith}
 use denote.Ref.{now}
-use lib.ListN.{length, getD, set, take}
-use lib.Seq.{take-suc, take-all, length-take-le}
+use lib.ListN.{length, take, drop, replicate, length-replicate, replicate-append-replicate}
+use lib.Seq.{take-length, drop-at}
 use Rattle.datagram.specs.Padding.{padTo}
-use Rattle.datagram.proofs.Padding.{set-pad}
 use Rattle.sender.proofs.padded.Statement.{statement}
 use Rattle.sender.proofs.padded.Tie as tie
 
-abbrev Inv-loop : tie.InvT-loop
-Inv-loop bytes out₀ i₀ out i = (i ≤ length bytes) × (out ≡ padTo 18 (take i bytes))
-
-abbrev μ-loop : tie.MeasureT-loop
-μ-loop bytes out₀ i₀ out i = length bytes - i
-
--- one more byte is copied
-copied : (xs : List ℕ) (i : ℕ) → i < length xs → i < 18 → set (padTo 18 (take i xs)) i (getD xs i 0) ≡ padTo 18 (take (i + 1) xs)
-copied xs i h k = rw (add-one, take-suc xs i 0 h) (set-pad 18 (take i xs) i (getD xs i 0) (length-take-le i xs (omega arith)) k)
-
-loop-holds : tie.Need-loop-holds Inv-loop μ-loop
+into-zeros : (n : ℕ) (xs : List ℕ) → length xs ≤ n → take (length xs) xs ++ drop (length xs) (replicate n 0) ≡ padTo n xs
 unfolding padTo
-loop-holds c = search needs
+into-zeros n xs h =
+    let k = length xs in
+    let whole : k + (n - k) ≡ n = omega arith in
+    let parted = sym (replicate-append-replicate {A = ℕ} k (n - k) 0 ∙ ap (λ (m : ℕ). replicate m 0) whole) in
+    rw (take-length, parted, drop-at {A = ℕ} (replicate k 0) (replicate (n - k) 0) k (length-replicate k 0))
 
-loop-again : tie.Need-loop-again Inv-loop μ-loop
-loop-again c =
-    let w = c .before .before in
-    (search needs, rw (w .loop .inv .1) (copied (now (w .before .args .bytes)) (w .loop .i) (omega arith) (omega arith)))
-
-returns : tie.Need-returns Inv-loop μ-loop
+returns : tie.Need-returns
 returns c =
-    let xs = now (c .before .before .args .bytes) in
-    c .before .loop .inv .1 ∙ ap (λ (ys : List ℕ). padTo 18 ys) (take-all (c .before .loop .i) xs (omega arith))
+    let start = c .before .before .before .before in
+    c .before .copy .ensures .1 ∙ into-zeros 18 (now (start .args .bytes)) (start .pre)
 
 pub padded-spec : {M : Type 1} → statement M
-padded-spec =
-    tie.close
-    (tie.spec Inv-loop μ-loop loop-holds (λ c. search needs) (λ c. search needs) (λ c. search needs) (λ c. search needs)
-    loop-again returns)
+padded-spec = tie.close (tie.spec (λ c. search needs) (λ c κs. search needs) returns)

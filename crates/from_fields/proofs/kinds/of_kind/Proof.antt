@@ -1,7 +1,8 @@
 -- `of_kind` makes each kind from the numbers that its clause names.
+use mir.Syntax.{w32}
 use Rattle.from_fields.specs.Naming.{messageOf}
 use borrow.Author.Needs.{needs}
-use Rattle.from_fields.proofs.Signs.{handed}
+use Rattle.number.proofs.Signed.{handed}
 use Rattle.from_fields.proofs.kinds.of_kind.Statement.{statement}
 use Rattle.from_fields.proofs.kinds.of_kind.Tie as tie
 
@@ -39,7 +40,7 @@ returns-8 c = rw (c .on-at9 .ensures, c .before .on-at8 .ensures, c .before .bef
 
 returns-9 : tie.Need-returns-9
 unfolding messageOf
-returns-9 c = rw (handed (record { sfits = c .signed-at .ok }) (c .signed-at .ensures), c .before .enum-told9 .given .1)
+returns-9 c = rw (handed w32 (c .signed-at .ok) (c .signed-at .ensures), c .before .enum-told9 .given .1)
 
 returns-10 : tie.Need-returns-10
 unfolding messageOf
@@ -79,11 +80,11 @@ returns-18 c = rw (c .on-at12 .ensures, c .before .natural-at27 .ensures, c .bef
 
 returns-19 : tie.Need-returns-19
 unfolding messageOf
-returns-19 c = rw (handed (record { sfits = c .signed-at2 .ok }) (c .signed-at2 .ensures), c .before .enum-told19 .given .1)
+returns-19 c = rw (handed w32 (c .signed-at2 .ok) (c .signed-at2 .ensures), c .before .enum-told19 .given .1)
 
 returns-20 : tie.Need-returns-20
 unfolding messageOf
-returns-20 c = rw (handed (record { sfits = c .signed-at3 .ok }) (c .signed-at3 .ensures), c .before .on-at13 .ensures, c .before .before .natural-at28 .ensures, c .before .before .before .enum-told20 .given .1)
+returns-20 c = rw (handed w32 (c .signed-at3 .ok) (c .signed-at3 .ensures), c .before .on-at13 .ensures, c .before .before .natural-at28 .ensures, c .before .before .before .enum-told20 .given .1)
 
 pub of-kind-spec : {M : Type 1} → statement M
 of-kind-spec =

@@ -1,7 +1,7 @@
 -- `turn` makes the definition's test of the six bits; a signed byte is in range.
 use borrow.Author.Needs.{needs}
 use borrow.Author.Tests.{le-leb, lt-leb}
-use mathlib.Core.Path.{ap, _∙_}
+use mathlib.Core.Path.{ap}
 use mathlib.Core.Bool.{_&&_}
 use Prim.Native.Nat.{_/_, _%_}
 use native.Mathlib.Omega.{arith}
@@ -9,7 +9,7 @@ use lib.IntN.{pos, negℤ}
 use lib.Signed.{leZ}
 use mir.Syntax.{w8, w32}
 use mir.Val.{toZ}
-use mir.ValLaws.{toZ-ofZ}
+use Rattle.number.proofs.Signed.{handed}
 use Rattle.angle.specs.Degree.{wholeAngle}
 use Rattle.message.specs.declared.Reading.the-variants.{Refused}
 use Rattle.message.specs.Range.{rangeOf}
@@ -20,11 +20,10 @@ use Rattle.reader.proofs.kinds.turn.Tie as tie
 returns : tie.Need-returns
 unfolding rangeOf
 returns c =
-    let rudder = toZ-ofZ w32 (c .signed-byte .result) (record { sfits = c .signed-byte .ok }) ∙ c .signed-byte .ensures in
     let a = c .before .before .before .before .args in
     rw (
       le-leb _ _ (c .before .before .before .if1 .taken),
-      rudder,
+      handed w32 (c .signed-byte .ok) (c .signed-byte .ensures),
       c .before .turns-right .ensures,
       c .before .before .whole-angle .ensures,
       le-leb (wholeAngle (a .u1 / 16) (a .vw % 64)) 359 (omega arith),

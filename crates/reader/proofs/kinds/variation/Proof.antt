@@ -1,12 +1,11 @@
 -- `variation` makes no test: minus a signed byte is in range.
 use borrow.Author.Needs.{needs}
-use mathlib.Core.Path.{_∙_}
 use mathlib.Core.Bool.{_&&_}
 use lib.IntN.{pos, negℤ}
 use lib.Signed.{leZ}
 use mir.Syntax.{w8, w32}
 use mir.Val.{toZ}
-use mir.ValLaws.{toZ-ofZ}
+use Rattle.number.proofs.Signed.{handed}
 use Rattle.message.specs.Range.{rangeOf}
 use Rattle.reader.proofs.Limits.{each-byte}
 use Rattle.reader.proofs.kinds.variation.Statement.{statement}
@@ -15,9 +14,8 @@ use Rattle.reader.proofs.kinds.variation.Tie as tie
 returns : tie.Need-returns
 unfolding rangeOf
 returns c =
-    let east = toZ-ofZ w32 (c .negated-byte .result) (record { sfits = c .negated-byte .ok }) ∙ c .negated-byte .ensures in
     rw (
-      east,
+      handed w32 (c .negated-byte .ok) (c .negated-byte .ensures),
       each-byte (λ b. leZ (negℤ (pos 127)) (negℤ (toZ w8 b)) && leZ (negℤ (toZ w8 b)) (pos 128)) tt (c .before .fits .xx),
     )
 

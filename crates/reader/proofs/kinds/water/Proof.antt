@@ -1,6 +1,6 @@
 -- `water` makes no test: a word less 100 is in range.
 use borrow.Author.Needs.{needs}
-use mathlib.Core.Path.{_≡_, refl, _∙_}
+use mathlib.Core.Path.{_≡_, refl}
 use mathlib.Core.Bool.{Bool, true, false, _&&_}
 use Prim.Native.Nat.{ℕ, suc, _-_, _≤_}
 use native.Mathlib.Omega.{arith}
@@ -9,7 +9,7 @@ use lib.Dec.{ltb}
 use lib.IntN.{pos, negℤ, _-ℤ_}
 use lib.Signed.{leZ}
 use mir.Syntax.{w32}
-use mir.ValLaws.{toZ-ofZ}
+use Rattle.number.proofs.Signed.{handed}
 use Rattle.number.specs.Word.{word}
 use Rattle.message.specs.Range.{rangeOf}
 use Rattle.reader.proofs.kinds.water.Statement.{statement}
@@ -30,8 +30,7 @@ returns : tie.Need-returns
 unfolding rangeOf
 returns c =
     let a = c .before .args in
-    let tenths = toZ-ofZ w32 (c .difference .result) (record { sfits = c .difference .ok }) ∙ c .difference .ensures in
-    rw (tenths, passes (word (a .low) (a .high)) (omega arith))
+    rw (handed w32 (c .difference .ok) (c .difference .ensures), passes (word (a .low) (a .high)) (omega arith))
 
 pub water-spec : {M : Type 1} → statement M
 water-spec = tie.close (tie.spec (λ c. search needs) (λ c. search needs) (λ c κs. search needs) returns)

@@ -2,10 +2,11 @@
 use borrow.Author.Tests.{le-leb, lt-leb}
 use mathlib.Core.Path.{_≡_, sym, _∙_}
 use lib.ListN.{length}
+use mir.Syntax.{w32}
 use Rattle.seatalk.specs.declared.hear.Numbered.the-variants.{Number, Refused}
 use Rattle.seatalk.specs.Hear.{numberOf}
 use borrow.Author.Needs.{needs}
-use Rattle.from_fields.proofs.Signs.{handed}
+use Rattle.number.proofs.Signed.{handed}
 use Rattle.seatalk.proofs.Kept.{one-longer}
 use Rattle.seatalk.proofs.hear.answer.Statement.{statement}
 use Rattle.seatalk.proofs.hear.answer.Tie as tie
@@ -15,7 +16,7 @@ returns c =
     let w = c .before .before .before .before .before in
     let a = w .before .before .before .args in
     let e : numberOf (a .h .answer) ≡ Number _ = sym (w .number-of .ensures) ∙ c .before .before .before .number .given .1 in
-    rw (handed (record { sfits = c .code-of2 .ok }) (c .code-of2 .ensures), e, lt-leb 20 (length (a .result .now)) (c .before .if1 .taken))
+    rw (handed w32 (c .code-of2 .ok) (c .code-of2 .ensures), e, lt-leb 20 (length (a .result .now)) (c .before .if1 .taken))
 
 put-next-requires : tie.Need-put-next-requires
 put-next-requires c κs =
@@ -29,7 +30,7 @@ returns-2 c =
     let w = c .before .before .before .before in
     let a = w .before .before .before .args in
     let e : numberOf (a .h .answer) ≡ Refused _ = sym (w .number-of .ensures) ∙ c .before .before .r .given .1 in
-    rw (handed (record { sfits = c .code-of .ok }) (c .code-of .ensures), e)
+    rw (handed w32 (c .code-of .ok) (c .code-of .ensures), e)
 
 returns-3 : tie.Need-returns-3
 returns-3 c =

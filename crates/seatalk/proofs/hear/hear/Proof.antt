@@ -4,11 +4,12 @@ use Prim.Native.Nat.{ℕ, _≤_, _<_}
 use mathlib.Core.Path.{_≡_, refl, sym, _∙_}
 use mathlib.Core.List.{List}
 use lib.ListN.{length}
+use mir.Syntax.{w32}
 use Rattle.datagram.specs.Refusals.{symbolAbove, notSound}
 use Rattle.listener.specs.Step.{hearOf}
 use Rattle.seatalk.specs.Hear.{refused, listenerOf, hearCall}
 use borrow.Author.Needs.{needs}
-use Rattle.from_fields.proofs.Signs.{handed}
+use Rattle.number.proofs.Signed.{handed}
 use Rattle.seatalk.proofs.hear.hear.Statement.{statement}
 use Rattle.seatalk.proofs.hear.hear.Tie as tie
 
@@ -26,13 +27,13 @@ other-length state symbol result h other = rw (le-ltb 511 symbol h, ne-eqb (leng
 returns : tie.Need-returns
 returns c =
     let a = c .before .before .before .before .args in
-    rw (handed (record { sfits = c .code-of .ok }) (c .code-of .ensures))
+    rw (handed w32 (c .code-of .ok) (c .code-of .ensures))
     (sym (above (a .state .now) (a .symbol) (a .result .now) (c .before .if1 .taken)))
 
 returns-2 : tie.Need-returns-2
 returns-2 c =
     let a = c .before .before .before .before .before .args in
-    rw (handed (record { sfits = c .code-of2 .ok }) (c .code-of2 .ensures))
+    rw (handed w32 (c .code-of2 .ok) (c .code-of2 .ensures))
     (sym (other-length (a .state .now) (a .symbol) (a .result .now) (c .before .before .if1 .left) (c .before .if2 .taken)))
 
 answer-requires : tie.Need-answer-requires
@@ -46,7 +47,7 @@ returns-3 c =
     let l = c .before .before .before .before .before .before .before .before .listener-of in
     let r = c .before .before .before .before .answer in
     let same : h .result ≡ hearOf (listenerOf (a .state .now)) (a .symbol) = h .ensures ∙ rw (l .ensures) in
-    rw (handed (record { sfits = r .ok }) refl, le-ltb 511 (a .symbol) (c .before .before .before .before .before .before .before .before .before .before .before .if1 .left), c .before .before .before .before .before .before .before .before .before .before .if2 .left, ← same)
+    rw (handed w32 (r .ok) refl, le-ltb 511 (a .symbol) (c .before .before .before .before .before .before .before .before .before .before .before .if1 .left), c .before .before .before .before .before .before .before .before .before .before .if2 .left, ← same)
     (r .ensures)
 
 pub hear-spec : {M : Type 1} → statement M

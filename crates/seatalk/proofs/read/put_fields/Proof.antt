@@ -14,7 +14,7 @@ use Rattle.to_fields.specs.declared.Fields.{Fields}
 use Rattle.to_fields.specs.Array.{arrayOf}
 use Rattle.from_fields.specs.Numbers.{fieldBytes, fieldsBytes}
 use Rattle.from_fields.proofs.Each.{each-length}
-use Rattle.from_fields.proofs.Signs.{handed}
+use Rattle.number.proofs.Signed.{handed}
 use Rattle.seatalk.proofs.Fits.{fields-fit}
 use borrow.Author.Needs.{needs}
 use Rattle.seatalk.proofs.read.put_fields.Statement.{statement}
@@ -38,7 +38,7 @@ returns c =
     let a = c .before .before .before .before .before .args in
     let f = c .before .before .before .fields-of in
     let n : f .result .count ≡ length (fieldsOf (a .m)) = rw (f .ensures) in
-    rw (handed (record { sfits = c .code-of .ok }) (c .code-of .ensures), size (fieldsOf (a .m)), lt-leb (4 * length (fieldsOf (a .m))) (length (a .result .now)) (omega arith))
+    rw (handed w32 (c .code-of .ok) (c .code-of .ensures), size (fieldsOf (a .m)), lt-leb (4 * length (fieldsOf (a .m))) (length (a .result .now)) (omega arith))
 
 store-requires : tie.Need-store-requires
 store-requires c κs =

@@ -5,7 +5,7 @@ use native.Mathlib.Omega.{arith}
 use lib.ListN.{length}
 use mir.Syntax.{w32}
 use mir.ValLaws.{toZ-pos}
-use Rattle.from_fields.proofs.Signs.{handed}
+use Rattle.number.proofs.Signed.{handed}
 use Rattle.seatalk.proofs.Spelled.{size, returned-refused, spelled}
 use borrow.Author.Needs.{needs}
 use Rattle.seatalk.proofs.write.put_symbols.Statement.{statement}
@@ -21,7 +21,7 @@ returns c =
     let a = c .before .before .before .before .before .before .before .before .before .args in
     let k = spelled (a .m) _ _ (rw (c .before .before .before .n .given .1) at (c .before .before .before .before .before .before .write .ensures)) in
     let n = c .before .before .before .n .given .0 .0 in
-    rw (handed (record { sfits = c .code-of2 .ok }) (c .code-of2 .ensures), k .in-range, size (a .m), ← k .count, lt-leb (2 * n) (length (a .result .now)) (omega arith))
+    rw (handed w32 (c .code-of2 .ok) (c .code-of2 .ensures), k .in-range, size (a .m), ← k .count, lt-leb (2 * n) (length (a .result .now)) (omega arith))
 
 store-requires : tie.Need-store-requires
 store-requires c κs =
@@ -37,7 +37,7 @@ cast-result c =
 returns-2 : tie.Need-returns-2
 returns-2 c =
     let a = c .before .before .before .before .before .before .before .before .args in
-    rw (handed (record { sfits = c .code-of .ok }) (c .code-of .ensures))
+    rw (handed w32 (c .code-of .ok) (c .code-of .ensures))
     (returned-refused (a .m) _ _ (a .result .now) (rw (c .before .before .r .given .1) at (c .before .before .before .before .before .write .ensures)))
 
 returns-3 : tie.Need-returns-3
