@@ -1,6 +1,8 @@
 // What is written is collected in a buffer. Each function takes how far that is filled, and gives how far it is then.
 use libc::STDOUT_FILENO;
 
+const DIGITS: [u8; 16] = *b"0123456789ABCDEF";
+
 // A byte more; a full buffer is written first.
 pub fn put(b: u8, out: &mut [u8], filled: usize) -> usize {
     if filled < out.len() {
@@ -8,10 +10,6 @@ pub fn put(b: u8, out: &mut [u8], filled: usize) -> usize {
         return filled + 1;
     }
     write_out(out, filled);
-    put_first(b, out)
-}
-
-fn put_first(b: u8, out: &mut [u8]) -> usize {
     if 0 < out.len() {
         out[0] = b;
         return 1;
@@ -41,24 +39,22 @@ pub fn decimal(n: u64, out: &mut [u8], filled: usize) -> usize {
     words(&digits[..k], out, filled)
 }
 
-// A digit of base 16.
-pub fn digit(d: u8, out: &mut [u8], filled: usize) -> usize {
-    if d < 10 {
-        return put(b'0' + d, out, filled);
-    }
-    put(b'A' + (d - 10) % 6, out, filled)
-}
-
 // A byte as two digits of base 16, with a space before it.
 pub fn byte(b: u8, out: &mut [u8], filled: usize) -> usize {
-    let space = put(b' ', out, filled);
-    let high = digit(b / 16, out, space);
-    digit(b % 16, out, high)
+    let text = [
+        b' ',
+        DIGITS[(b / 16 % 16) as usize],
+        DIGITS[(b % 16) as usize],
+    ];
+    words(&text, out, filled)
 }
 
 // A symbol as three digits of base 16.
 pub fn symbol(s: u16, out: &mut [u8], filled: usize) -> usize {
-    let high = digit((s / 256 % 16) as u8, out, filled);
-    let middle = digit((s / 16 % 16) as u8, out, high);
-    digit((s % 16) as u8, out, middle)
+    let text = [
+        DIGITS[(s / 256 % 16) as usize],
+        DIGITS[(s / 16 % 16) as usize],
+        DIGITS[(s % 16) as usize],
+    ];
+    words(&text, out, filled)
 }
