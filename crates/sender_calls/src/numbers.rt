@@ -13,17 +13,6 @@ pub struct Numbers {
     pub reading: bool,
 }
 
-pub fn none() -> Numbers {
-    Numbers {
-        bytes: [0; 24],
-        count: 0,
-        before: 0,
-        last: 0,
-        hex: 0,
-        reading: false,
-    }
-}
-
 // With one more character of the line; a new line starts with none.
 pub fn with(n: Numbers, c: u8) -> Numbers {
     let digit = digit_of(c);

@@ -20,63 +20,75 @@ pub fn begin() -> Kept {
     let refused = sender::offer(&[], 0, 0);
     let s = refused.sender;
     let said = sender::poll(s, 0, 0);
-    keeping(said, said, numbers::none(), 0, 0)
-}
-
-fn keeping(said: Outcome, held: Outcome, numbers: Numbers, command: u8, filled: usize) -> Kept {
+    let numbers = Numbers {
+        bytes: [0; 24],
+        count: 0,
+        before: 0,
+        last: 0,
+        hex: 0,
+        reading: false,
+    };
     Kept {
         said: said,
-        held: held,
+        held: said,
         numbers: numbers,
-        command: command,
-        filled: filled,
+        command: 0,
+        filled: 0,
     }
 }
 
 // The whole block.
 pub fn run(before: Kept, block: &[u8], out: &mut [u8]) -> Kept {
-    let mut s = before;
+    let mut k = before;
     let mut i = 0;
     while i < block.len() {
-        s = after(s, block[i], out);
+        k = after(k, block[i], out);
         i += 1;
     }
-    s
+    k
 }
 
 // One character.
-fn after(s: Kept, c: u8, out: &mut [u8]) -> Kept {
-    let said = s.said;
-    let held = s.held;
-    let before = s.numbers;
-    let numbers = numbers::with(before, c);
-    let command = s.command;
-    if command == 0 {
+fn after(before: Kept, c: u8, out: &mut [u8]) -> Kept {
+    let mut k = before;
+    let read = k.numbers;
+    let numbers = numbers::with(read, c);
+    k.numbers = numbers;
+    if k.command == 0 {
         if c == b'{' {
-            return keeping(said, held, numbers, c, s.filled);
+            k.command = c;
+            return k;
         }
-        let filled = output::put(c, out, s.filled);
-        return keeping(said, held, numbers, 0, filled);
+        k.filled = output::put(c, out, k.filled);
+        return k;
     }
     if c == b'}' {
-        return done(s, numbers, out);
+        return done(k, out);
     }
-    let letter = if command == b'{' { c } else { command };
-    keeping(said, held, numbers, letter, s.filled)
+    if k.command == b'{' {
+        k.command = c;
+    }
+    k
 }
 
 // The command whose brace is closed.
-fn done(s: Kept, numbers: Numbers, out: &mut [u8]) -> Kept {
-    let said = s.said;
-    let held = s.held;
-    let command = s.command;
-    match command {
-        b'h' => keeping(said, said, numbers, 0, s.filled),
-        b'b' => keeping(held, held, numbers, 0, s.filled),
-        _ => {
-            let now = calls::called(command, said, numbers);
-            let filled = text::told(command, now, out, s.filled);
-            keeping(now, held, numbers, 0, filled)
-        }
+fn done(before: Kept, out: &mut [u8]) -> Kept {
+    let mut k = before;
+    let command = k.command;
+    k.command = 0;
+    let said = k.said;
+    if command == b'h' {
+        k.held = said;
+        return k;
     }
+    if command == b'b' {
+        let held = k.held;
+        k.said = held;
+        return k;
+    }
+    let numbers = k.numbers;
+    let now = calls::called(command, said, numbers);
+    k.said = now;
+    k.filled = text::told(command, now, out, k.filled);
+    k
 }

@@ -7,10 +7,10 @@ use Rattle.sender_calls.proofs.script.run.Statement.{statement}
 use Rattle.sender_calls.proofs.script.run.Tie as tie
 
 abbrev Inv-loop : tie.InvT-loop
-Inv-loop block out₀ s₀ i₀ out s i = length out ≡ length out₀
+Inv-loop block out₀ k₀ i₀ out k i = length out ≡ length out₀
 
 abbrev μ-loop : tie.MeasureT-loop
-μ-loop block out₀ s₀ i₀ out s i = length block - i
+μ-loop block out₀ k₀ i₀ out k i = length block - i
 
 pub run-spec : {M : Type 1} → statement M
 run-spec =
