@@ -10,7 +10,7 @@
 //   {hold}    keeps the sender and the last answer                       {back}    goes back to those
 //   {fields}  makes any sender, by the first 23 numbers: phase 0 to 3, 18 bytes, position, wait, limit, failures
 // Times, the source, and an offer's wait and limit are decimal, all else is base 16. {Offer}, {Poll} and {Echo} write nothing.
-// An offer can have 22 bytes: a line keeps 24 numbers.
+// Capitals A to F are digits wherever they stand. A line keeps 24 numbers, so an offer can have up to 22 bytes.
 mod calls;
 mod numbers;
 mod output;
