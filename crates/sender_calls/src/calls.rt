@@ -49,11 +49,12 @@ fn offered(o: Offered) -> Outcome {
     }
 }
 
+// The first 23 numbers of the line: phase, datagram, position, wait, limit, failures.
 fn fields(bytes: [u8; 24]) -> Sender {
     let mut datagram = [0u8; 18];
-    datagram[0] = 0x30;
-    datagram[2] = 0x04;
-    datagram[3] = bytes[5];
+    for i in 0..18 {
+        datagram[i] = bytes[1 + i];
+    }
     let phase = match bytes[0] {
         0 => Phase::Waiting,
         1 => Phase::Awaiting,
@@ -63,9 +64,9 @@ fn fields(bytes: [u8; 24]) -> Sender {
     Sender {
         phase: phase,
         datagram: datagram,
-        position: bytes[1],
-        wait: bytes[2],
-        limit: bytes[3],
-        failures: bytes[4],
+        position: bytes[19],
+        wait: bytes[20],
+        limit: bytes[21],
+        failures: bytes[22],
     }
 }

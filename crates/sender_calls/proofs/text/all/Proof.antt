@@ -1,0 +1,28 @@
+-- `all` takes one turn for each byte.
+use borrow.Author.Needs.{needs}
+use Prim.Native.Nat.{_-_}
+use mathlib.Core.Path.{_≡_}
+use lib.ListN.{length}
+use Rattle.sender_calls.proofs.text.all.Statement.{statement}
+use Rattle.sender_calls.proofs.text.all.Tie as tie
+
+abbrev Inv-loop : tie.InvT-loop
+Inv-loop bytes out₀ filled at₀ i₀ out at i = length out ≡ length out₀
+
+abbrev μ-loop : tie.MeasureT-loop
+μ-loop bytes out₀ filled at₀ i₀ out at i = length bytes - i
+
+pub all-spec : {M : Type 1} → statement M
+all-spec =
+    tie.close
+    (tie.spec
+    Inv-loop
+    μ-loop
+    (λ c. search needs)
+    (λ c. search needs)
+    (λ c κs. search needs)
+    (λ c. search needs)
+    (λ c. search needs)
+    (λ c. search needs)
+    (λ c. search needs)
+    (λ c. search needs))
