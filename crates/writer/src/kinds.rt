@@ -9,6 +9,9 @@ use angle::whole_digits;
 use number::bits_of;
 use number::flag;
 ghost use mathlib.Core.Path.{_≡_};
+ghost use mathlib.Core.List.{[], _∷_};
+ghost use Prim.Native.Nat.{_+_, _*_, _/_, _%_};
+ghost use Rattle.number.specs.Word.{lowByte, num};
 ghost use Rattle.message.specs.Spelling.{depthBytes, windAngleBytes, windSpeedBytes, speedBytes, tripBytes, totalBytes, logsBytes, speedsBytes, waterBytes, lampBytes, latitudeBytes, longitudeBytes, groundBytes, courseBytes, timeBytes, dateBytes, keyBytes, headingBytes, variationBytes, turnBytes};
 ghost use Rattle.writer.specs.Writing.{outcome, storeOf};
 
@@ -155,24 +158,23 @@ pub fn lamp(part: &mut [u16], level: u32) -> Written
 pub fn latitude(part: &mut [u16], degrees: u32, hundredths: u32, south: bool) -> Written
     ensures { λ r. ⌜ outcome r (now (part .exit)) ≡ storeOf (latitudeBytes degrees hundredths south) (now (part .entry)) ⌝ }
 {
-    let top = (hundredths / 256 % 128) as u8 + 128 * flag(south);
-    store5(
-        part,
-        0x50,
-        0x02,
-        (degrees % 256) as u8,
-        (hundredths % 256) as u8,
-        top,
-    )
+    coordinate(part, 0x50, degrees, hundredths, south)
 }
 
 pub fn longitude(part: &mut [u16], degrees: u32, hundredths: u32, east: bool) -> Written
     ensures { λ r. ⌜ outcome r (now (part .exit)) ≡ storeOf (longitudeBytes degrees hundredths east) (now (part .entry)) ⌝ }
 {
-    let top = (hundredths / 256 % 128) as u8 + 128 * flag(east);
+    coordinate(part, 0x51, degrees, hundredths, east)
+}
+
+// The degrees, and the hundredths of a minute with the side above them.
+fn coordinate(part: &mut [u16], command: u8, degrees: u32, hundredths: u32, side: bool) -> Written
+    ensures { λ r. ⌜ outcome r (now (part .exit)) ≡ storeOf (command ∷ 0x02 ∷ (degrees % 256) ∷ lowByte hundredths ∷ (hundredths / 256 % 128 + 128 * num side) ∷ []) (now (part .entry)) ⌝ }
+{
+    let top = (hundredths / 256 % 128) as u8 + 128 * flag(side);
     store5(
         part,
-        0x51,
+        command,
         0x02,
         (degrees % 256) as u8,
         (hundredths % 256) as u8,
