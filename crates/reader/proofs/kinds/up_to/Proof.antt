@@ -2,7 +2,7 @@
 use borrow.Author.Needs.{needs}
 use borrow.Author.Tests.{le-leb, lt-leb}
 use mathlib.Core.Path.{ap}
-use Rattle.message.specs.declared.Reading.the-variants.{Refused}
+use Rattle.message.specs.declared.Verdict.the-variants.{Refused}
 use Rattle.reader.proofs.kinds.up_to.Statement.{statement}
 use Rattle.reader.proofs.kinds.up_to.Tie as tie
 
