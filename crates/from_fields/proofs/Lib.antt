@@ -1,4 +1,4 @@
-pub mod Places
+pub mod Loads
 pub mod Flags
 pub mod Rows
 pub mod Each

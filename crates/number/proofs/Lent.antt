@@ -1,4 +1,4 @@
--- A buffer lent from a place on: the whole of the rest is lent, so nothing stands behind it; and a copy made into it.
+-- A buffer lent from a position on: the whole of the rest is lent, so nothing stands behind it; and a copy made into it.
 use mathlib.Core.Path.{_≡_}
 use mathlib.Core.List.{List, [], _++_, append-nil, append-assoc}
 use Prim.Native.Nat.{ℕ, _+_, _-_, _≤_}

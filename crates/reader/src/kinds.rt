@@ -7,6 +7,7 @@ use datagram::refusals::BAD_REPEAT;
 use datagram::refusals::out_of_range;
 use message::Message;
 use message::Reading;
+use message::Verdict;
 use number::difference;
 use number::negated_byte;
 use number::signed_byte;
@@ -14,7 +15,7 @@ use number::word_of;
 ghost use mathlib.Core.Path.{_≡_};
 ghost use Rattle.message.specs.Decode.{depthOf, windAngleOf, windSpeedOf, speedOf, tripOf, totalOf, logsOf, speedsOf, waterOf, lampOf, latitudeOf, longitudeOf, groundOf, courseOf, timeOf, dateOf, keyOf, headingOf, variationOf, turnOf};
 ghost use Rattle.message.specs.Range.{atMost, andThen};
-ghost use Rattle.message.specs.Reading.{judged, ruled};
+ghost use Rattle.message.specs.Reading.{judged};
 
 pub fn depth(yz: u8, low: u8, high: u8) -> Reading
     ensures { λ r. ⌜ r ≡ judged (depthOf yz low high) ⌝ }
@@ -121,37 +122,41 @@ pub fn latitude(xx: u8, low: u8, high: u8) -> Reading
     ensures { λ r. ⌜ r ≡ judged (latitudeOf xx low high) ⌝ }
 {
     let hundredths = word_of(low, high % 128);
-    let m = Message::Latitude {
-        degrees: xx as u32,
-        hundredths: hundredths,
-        south: high / 128 % 2 == 1,
-    };
-    up_to(90, xx, hundredths, m)
+    match degrees_up_to(90, xx, hundredths) {
+        Verdict::InRange => Reading::Read(Message::Latitude {
+            degrees: xx as u32,
+            hundredths: hundredths,
+            south: high / 128 % 2 == 1,
+        }),
+        Verdict::Refused(r) => Reading::Refused(r),
+    }
 }
 
 pub fn longitude(xx: u8, low: u8, high: u8) -> Reading
     ensures { λ r. ⌜ r ≡ judged (longitudeOf xx low high) ⌝ }
 {
     let hundredths = word_of(low, high % 128);
-    let m = Message::Longitude {
-        degrees: xx as u32,
-        hundredths: hundredths,
-        east: high / 128 % 2 == 1,
-    };
-    up_to(180, xx, hundredths, m)
+    match degrees_up_to(180, xx, hundredths) {
+        Verdict::InRange => Reading::Read(Message::Longitude {
+            degrees: xx as u32,
+            hundredths: hundredths,
+            east: high / 128 % 2 == 1,
+        }),
+        Verdict::Refused(r) => Reading::Refused(r),
+    }
 }
 
-// The message, if its degrees are at most the limit and its hundredths of a minute make no degree.
-fn up_to(limit: u8, degrees: u8, hundredths: u32, m: Message) -> Reading
-    ensures { λ r. ⌜ r ≡ ruled (andThen (atMost 1 limit degrees) (atMost 2 5999 hundredths)) m ⌝ }
+// Whether degrees are at most the limit, and hundredths of a minute make no degree.
+fn degrees_up_to(limit: u8, degrees: u8, hundredths: u32) -> Verdict
+    ensures { λ r. ⌜ r ≡ andThen (atMost 1 limit degrees) (atMost 2 5999 hundredths) ⌝ }
 {
     if limit < degrees {
-        return Reading::Refused(out_of_range(1));
+        return Verdict::Refused(out_of_range(1));
     }
     if 5999 < hundredths {
-        return Reading::Refused(out_of_range(2));
+        return Verdict::Refused(out_of_range(2));
     }
-    Reading::Read(m)
+    Verdict::InRange
 }
 
 pub fn ground(low: u8, high: u8) -> Reading

@@ -13,7 +13,7 @@ use Rattle.message.specs.Range.{rangeOf}
 use Rattle.from_fields.specs.declared.Naming.the-variants.{Named, Refused}
 use Rattle.from_fields.specs.Numbers.{numbersOf}
 use Rattle.from_fields.specs.Naming.{messageOf}
-use Rattle.from_fields.proofs.Places.{front}
+use Rattle.from_fields.proofs.Loads.{front}
 use Rattle.from_fields.proofs.Flags.{judged-before}
 use borrow.Author.Needs.{needs}
 use Rattle.from_fields.proofs.flag_judged.Statement.{statement}

@@ -8,7 +8,7 @@ use lib.ListN.{length}
 use Rattle.message.specs.declared.Lookup.{Lookup}
 use Rattle.from_fields.specs.Numbers.{numbersOf}
 use Rattle.from_fields.specs.Naming.{countOf, flagsOf, flagged, namedAs}
-use Rattle.from_fields.proofs.Places.{four-each}
+use Rattle.from_fields.proofs.Loads.{four-each}
 use Rattle.from_fields.proofs.Flags.{bad-inside}
 use borrow.Author.Needs.{needs}
 use Rattle.from_fields.proofs.message_as.Statement.{statement}

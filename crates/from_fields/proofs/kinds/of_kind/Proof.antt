@@ -6,87 +6,8 @@ use Rattle.number.proofs.Signed.{handed}
 use Rattle.from_fields.proofs.kinds.of_kind.Statement.{statement}
 use Rattle.from_fields.proofs.kinds.of_kind.Tie as tie
 
-returns : tie.Need-returns
-unfolding messageOf
-returns c = rw (c .on-at5 .ensures, c .before .on-at4 .ensures, c .before .before .on-at3 .ensures, c .before .before .before .on-at2 .ensures, c .before .before .before .before .on-at .ensures, c .before .before .before .before .before .natural-at .ensures, c .before .before .before .before .before .before .enum-told .given .1)
-
-returns-2 : tie.Need-returns-2
-unfolding messageOf
-returns-2 c = rw (c .natural-at2 .ensures, c .before .enum-told2 .given .1)
-
-returns-3 : tie.Need-returns-3
-unfolding messageOf
-returns-3 c = rw (c .on-at6 .ensures, c .before .natural-at3 .ensures, c .before .before .enum-told3 .given .1)
-
-returns-4 : tie.Need-returns-4
-unfolding messageOf
-returns-4 c = rw (c .natural-at4 .ensures, c .before .enum-told4 .given .1)
-
-returns-5 : tie.Need-returns-5
-unfolding messageOf
-returns-5 c = rw (c .natural-at5 .ensures, c .before .enum-told5 .given .1)
-
-returns-6 : tie.Need-returns-6
-unfolding messageOf
-returns-6 c = rw (c .natural-at6 .ensures, c .before .enum-told6 .given .1)
-
-returns-7 : tie.Need-returns-7
-unfolding messageOf
-returns-7 c = rw (c .natural-at8 .ensures, c .before .natural-at7 .ensures, c .before .before .enum-told7 .given .1)
-
-returns-8 : tie.Need-returns-8
-unfolding messageOf
-returns-8 c = rw (c .on-at9 .ensures, c .before .on-at8 .ensures, c .before .before .on-at7 .ensures, c .before .before .before .natural-at10 .ensures, c .before .before .before .before .natural-at9 .ensures, c .before .before .before .before .before .enum-told8 .given .1)
-
-returns-9 : tie.Need-returns-9
-unfolding messageOf
-returns-9 c = rw (handed w32 (c .signed-at .ok) (c .signed-at .ensures), c .before .enum-told9 .given .1)
-
-returns-10 : tie.Need-returns-10
-unfolding messageOf
-returns-10 c = rw (c .natural-at11 .ensures, c .before .enum-told10 .given .1)
-
-returns-11 : tie.Need-returns-11
-unfolding messageOf
-returns-11 c = rw (c .on-at10 .ensures, c .before .natural-at13 .ensures, c .before .before .natural-at12 .ensures, c .before .before .before .enum-told11 .given .1)
-
-returns-12 : tie.Need-returns-12
-unfolding messageOf
-returns-12 c = rw (c .on-at11 .ensures, c .before .natural-at15 .ensures, c .before .before .natural-at14 .ensures, c .before .before .before .enum-told12 .given .1)
-
-returns-13 : tie.Need-returns-13
-unfolding messageOf
-returns-13 c = rw (c .natural-at16 .ensures, c .before .enum-told13 .given .1)
-
-returns-14 : tie.Need-returns-14
-unfolding messageOf
-returns-14 c = rw (c .natural-at17 .ensures, c .before .enum-told14 .given .1)
-
-returns-15 : tie.Need-returns-15
-unfolding messageOf
-returns-15 c = rw (c .natural-at20 .ensures, c .before .natural-at19 .ensures, c .before .before .natural-at18 .ensures, c .before .before .before .enum-told15 .given .1)
-
-returns-16 : tie.Need-returns-16
-unfolding messageOf
-returns-16 c = rw (c .natural-at23 .ensures, c .before .natural-at22 .ensures, c .before .before .natural-at21 .ensures, c .before .before .before .enum-told16 .given .1)
-
-returns-17 : tie.Need-returns-17
-unfolding messageOf
-returns-17 c = rw (c .natural-at25 .ensures, c .before .natural-at24 .ensures, c .before .before .enum-told17 .given .1)
-
-returns-18 : tie.Need-returns-18
-unfolding messageOf
-returns-18 c = rw (c .on-at12 .ensures, c .before .natural-at27 .ensures, c .before .before .natural-at26 .ensures, c .before .before .before .enum-told18 .given .1)
-
-returns-19 : tie.Need-returns-19
-unfolding messageOf
-returns-19 c = rw (handed w32 (c .signed-at2 .ok) (c .signed-at2 .ensures), c .before .enum-told19 .given .1)
-
-returns-20 : tie.Need-returns-20
-unfolding messageOf
-returns-20 c = rw (handed w32 (c .signed-at3 .ok) (c .signed-at3 .ensures), c .before .on-at13 .ensures, c .before .before .natural-at28 .ensures, c .before .before .before .enum-told20 .given .1)
-
 pub of-kind-spec : {M : Type 1} → statement M
+unfolding messageOf
 of-kind-spec =
     tie.close
     (tie.spec (λ c. search needs) (λ c κs. search needs) (λ c κs. search needs) (λ c κs. search needs)
@@ -111,5 +32,23 @@ of-kind-spec =
     (λ c. search needs) (λ c κs. search needs) (λ c κs. search needs) (λ c κs. search needs)
     (λ c. search needs) (λ c κs. search needs)
     (λ c. search needs) (λ c κs. search needs) (λ c κs. search needs) (λ c κs. search needs)
-    returns returns-2 returns-3 returns-4 returns-5 returns-6 returns-7 returns-8 returns-9 returns-10 returns-11
-    returns-12 returns-13 returns-14 returns-15 returns-16 returns-17 returns-18 returns-19 returns-20)
+    (λ c. rw (c .on-at5 .ensures, c .before .on-at4 .ensures, c .before .before .on-at3 .ensures, c .before .before .before .on-at2 .ensures, c .before .before .before .before .on-at .ensures, c .before .before .before .before .before .natural-at .ensures, c .before .before .before .before .before .before .enum-told .given .1))
+    (λ c. rw (c .natural-at2 .ensures, c .before .enum-told2 .given .1))
+    (λ c. rw (c .on-at6 .ensures, c .before .natural-at3 .ensures, c .before .before .enum-told3 .given .1))
+    (λ c. rw (c .natural-at4 .ensures, c .before .enum-told4 .given .1))
+    (λ c. rw (c .natural-at5 .ensures, c .before .enum-told5 .given .1))
+    (λ c. rw (c .natural-at6 .ensures, c .before .enum-told6 .given .1))
+    (λ c. rw (c .natural-at8 .ensures, c .before .natural-at7 .ensures, c .before .before .enum-told7 .given .1))
+    (λ c. rw (c .on-at9 .ensures, c .before .on-at8 .ensures, c .before .before .on-at7 .ensures, c .before .before .before .natural-at10 .ensures, c .before .before .before .before .natural-at9 .ensures, c .before .before .before .before .before .enum-told8 .given .1))
+    (λ c. rw (handed w32 (c .signed-at .ok) (c .signed-at .ensures), c .before .enum-told9 .given .1))
+    (λ c. rw (c .natural-at11 .ensures, c .before .enum-told10 .given .1))
+    (λ c. rw (c .on-at10 .ensures, c .before .natural-at13 .ensures, c .before .before .natural-at12 .ensures, c .before .before .before .enum-told11 .given .1))
+    (λ c. rw (c .on-at11 .ensures, c .before .natural-at15 .ensures, c .before .before .natural-at14 .ensures, c .before .before .before .enum-told12 .given .1))
+    (λ c. rw (c .natural-at16 .ensures, c .before .enum-told13 .given .1))
+    (λ c. rw (c .natural-at17 .ensures, c .before .enum-told14 .given .1))
+    (λ c. rw (c .natural-at20 .ensures, c .before .natural-at19 .ensures, c .before .before .natural-at18 .ensures, c .before .before .before .enum-told15 .given .1))
+    (λ c. rw (c .natural-at23 .ensures, c .before .natural-at22 .ensures, c .before .before .natural-at21 .ensures, c .before .before .before .enum-told16 .given .1))
+    (λ c. rw (c .natural-at25 .ensures, c .before .natural-at24 .ensures, c .before .before .enum-told17 .given .1))
+    (λ c. rw (c .on-at12 .ensures, c .before .natural-at27 .ensures, c .before .before .natural-at26 .ensures, c .before .before .before .enum-told18 .given .1))
+    (λ c. rw (handed w32 (c .signed-at2 .ok) (c .signed-at2 .ensures), c .before .enum-told19 .given .1))
+    (λ c. rw (handed w32 (c .signed-at3 .ok) (c .signed-at3 .ensures), c .before .on-at13 .ensures, c .before .before .natural-at28 .ensures, c .before .before .before .enum-told20 .given .1)))

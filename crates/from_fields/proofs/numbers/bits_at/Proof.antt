@@ -2,7 +2,7 @@
 use mathlib.Core.Path.{sym}
 use native.Mathlib.Omega.{arith}
 use borrow.Author.Needs.{needs}
-use Rattle.from_fields.proofs.Places.{within, past}
+use Rattle.from_fields.proofs.Loads.{within, past}
 use Rattle.from_fields.proofs.numbers.bits_at.Statement.{statement}
 use Rattle.from_fields.proofs.numbers.bits_at.Tie as tie
 

@@ -1,6 +1,6 @@
 -- `fields` stays within the 24 numbers and the 18 bytes, and takes one turn for each of these.
 use borrow.Author.Needs.{needs}
-use Prim.Native.Nat.{_-_, _≤_}
+use Prim.Native.Nat.{_-_}
 use mathlib.Core.Path.{_≡_}
 use lib.ListN.{length}
 use Rattle.sender_calls.proofs.calls.fields.Statement.{statement}

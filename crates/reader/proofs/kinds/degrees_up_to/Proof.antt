@@ -1,13 +1,13 @@
--- `up_to` makes the definition's tests of the degrees and of the hundredths, in that order.
+-- `degrees_up_to` makes the definition's tests of the degrees and of the hundredths, in that order.
 use borrow.Author.Needs.{needs}
 use borrow.Author.Tests.{le-leb, lt-leb}
 use mathlib.Core.Path.{ap}
-use Rattle.message.specs.declared.Reading.the-variants.{Refused}
-use Rattle.reader.proofs.kinds.up_to.Statement.{statement}
-use Rattle.reader.proofs.kinds.up_to.Tie as tie
+use Rattle.message.specs.declared.Verdict.the-variants.{Refused}
+use Rattle.reader.proofs.kinds.degrees_up_to.Statement.{statement}
+use Rattle.reader.proofs.kinds.degrees_up_to.Tie as tie
 
-pub up-to-spec : {M : Type 1} → statement M
-up-to-spec =
+pub degrees-up-to-spec : {M : Type 1} → statement M
+degrees-up-to-spec =
     tie.close
     (tie.spec (λ c κs. search needs) (λ c. rw (lt-leb _ _ (c .before .if1 .taken)) (ap Refused (c .out-of-range .ensures)))
     (λ c κs. search needs) (λ c. rw (le-leb _ _ (c .before .before .if1 .left), lt-leb _ _ (c .before .if2 .taken)) (ap Refused (c .out-of-range2 .ensures)))

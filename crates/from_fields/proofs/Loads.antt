@@ -11,7 +11,7 @@ use Rattle.number.specs.Word.{long}
 use Rattle.from_fields.specs.Numbers.{numbersOf}
 use Rattle.from_fields.specs.Naming.{signed}
 
--- the 32 bits from a place on
+-- the 32 bits from a position on
 abbrev pub bitsFrom : List ℕ → ℕ → ℕ
 bitsFrom fs at = long (getD fs at 0) (getD fs (at + 1) 0) (getD fs (at + 2) 0) (getD fs (at + 3) 0)
 
