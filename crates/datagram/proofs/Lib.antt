@@ -1,3 +1,4 @@
 pub mod Padding
 pub mod Whole
 pub mod Zeros
+pub mod Lent

@@ -1,3 +1,2 @@
 pub mod Finite
 pub mod Signed
-pub mod Lent

@@ -12,7 +12,7 @@ use borrow.Author.Tests.{le-leb, lt-leb}
 use Rattle.datagram.specs.Refusals.{noRoom}
 use Rattle.datagram.specs.Whole.{symbols}
 use Rattle.datagram.proofs.Whole.{as-many}
-use Rattle.number.proofs.Lent.{whole, none-behind}
+use Rattle.datagram.proofs.Lent.{whole, none-behind}
 use Rattle.message.specs.declared.Verdict.the-variants.{InRange}
 use Rattle.writer.specs.declared.Written.{Written}
 use Rattle.writer.specs.declared.Written.the-variants.{Wrote, Refused}

@@ -1,7 +1,7 @@
 -- `put` lends the part from the position on to a copy; what comes back stands after the bytes before it.
 use borrow.Author.Needs.{needs}
 use denote.Ref.{now}
-use Rattle.number.proofs.Lent.{copied}
+use Rattle.datagram.proofs.Lent.{copied}
 use Rattle.seatalk.proofs.put.Statement.{statement}
 use Rattle.seatalk.proofs.put.Tie as tie
 
