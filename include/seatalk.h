@@ -9,6 +9,8 @@
  * A slice is a pointer and a length in bytes. No pointer may be NULL, also where the length is 0. The buffers of one
  * call must not overlap. No call allocates, keeps a pointer or has state of its own, so calls on different buffers
  * may run at the same time.
+ *
+ * "rules 11.3" below is section 11.3 of docs/RULES.md, which says exactly what each call does.
  */
 #ifndef SEATALK_H
 #define SEATALK_H
@@ -20,7 +22,7 @@
 extern "C" {
 #endif
 
-/* The refusals of these calls. */
+/* The refusals of these calls (rules 2.1). */
 #define SEATALK_SYMBOL_ABOVE 1    /* a symbol is above 511 */
 #define SEATALK_NOT_SOUND 2       /* the state is not SEATALK_STATE_SIZE bytes, or it is not sound */
 #define SEATALK_NOT_WHOLE 3       /* the bytes are not a whole datagram */
@@ -34,21 +36,21 @@ extern "C" {
 #define SEATALK_REFUSAL_NUMBER(returned) (-(int32_t)(returned) % 256)
 #define SEATALK_REFUSAL_PLACE(returned) (-(int32_t)(returned) / 256)
 
-/* The answers of the listener: byte 0 of seatalk_hear's result. */
+/* The answers of the listener (rules 3.4): byte 0 of seatalk_hear's result. */
 #define SEATALK_OPENED 0     /* command symbol, nothing was held: its byte is held */
 #define SEATALK_CANCELLED 1  /* command symbol, something was held: its byte alone is held */
 #define SEATALK_STRAY 2      /* other symbol, nothing held: still empty */
 #define SEATALK_KEPT 3       /* other symbol, declared length not reached */
 #define SEATALK_HANDED_OUT 4 /* other symbol, declared length reached: the datagram is in the result, the state empty */
 
-/* Sizes in bytes. */
+/* Sizes in bytes (rules 11.2). */
 #define SEATALK_STATE_SIZE 18      /* a listener state */
 #define SEATALK_HEARD_SIZE 20      /* the result of seatalk_hear */
 #define SEATALK_DATAGRAM_SIZE 18   /* at most, a datagram */
 #define SEATALK_FIELDS_SIZE 24     /* at most, the fields of a kind */
 #define SEATALK_SYMBOLS_SIZE 14    /* at most, the symbols of a kind */
 
-/* One symbol heard.
+/* One symbol heard (rules 11.3).
  *
  * state, 18 bytes: the number held, then 17 bytes, those held and zeros. All zeros is the empty listener. Accepted,
  * it becomes the next state.
@@ -60,7 +62,7 @@ extern "C" {
  */
 int32_t seatalk_hear(uint8_t *state, size_t state_length, uint32_t symbol, uint8_t *result, size_t result_length);
 
-/* A datagram read as the fields of its kind. The kind is its command, bytes[0].
+/* A datagram read as the fields of its kind (rules 11.4). The kind is its command, bytes[0].
  *
  * bytes: any bytes.
  * result: the fields in table order, 4 bytes each, signed two's complement, low byte first; flags 0 or 1.
@@ -69,7 +71,7 @@ int32_t seatalk_hear(uint8_t *state, size_t state_length, uint32_t symbol, uint8
  */
 int32_t seatalk_read(const uint8_t *bytes, size_t bytes_length, uint8_t *result, size_t result_length);
 
-/* A message written as symbols for the bus.
+/* A message written as symbols for the bus (rules 11.5).
  *
  * command: the kind; any number.
  * fields: laid out as the result of seatalk_read.
@@ -81,8 +83,8 @@ int32_t seatalk_read(const uint8_t *bytes, size_t bytes_length, uint8_t *result,
 int32_t seatalk_write(uint32_t command, const uint8_t *fields, size_t fields_length, uint8_t *result,
                       size_t result_length);
 
-/* The kinds: command in hex, length of the datagram in bytes, fields in order. A field without a range takes every
- * number of its bits; "flag" is 0 or 1.
+/* The kinds (rules 4.2): command in hex, length of the datagram in bytes, fields in order with their ranges; "flag" is 0
+ * or 1.
  *
  *   00 5  depth: tenths of a foot 0..65535; flags anchor, metric, defective, deep, shallow
  *   10 4  wind angle: half degrees 0..719
