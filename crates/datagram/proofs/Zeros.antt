@@ -17,8 +17,8 @@ module _ (s : List ℕ) where
   word-zero at k zero e j h = absurd (omega arith)
   word-zero at k (suc n) e zero h = rw add-zero (omega (arith, e))
   word-zero at k (suc n) e (suc j) h =
-      let place : k + suc j ≡ suc k + j = omega arith in
-      rw place (word-zero at (suc k) n (omega (arith, e)) j (omega arith))
+      let moved : k + suc j ≡ suc k + j = omega arith in
+      rw moved (word-zero at (suc k) n (omega (arith, e)) j (omega arith))
 
   zero-word : (at k n : ℕ) → ((j : ℕ) → j < n → getD s (at + (k + j)) 0 ≡ 0) → wordFrom s at k n ≡ 0
   zero-word at k zero f = refl
@@ -32,9 +32,9 @@ module _ (s : List ℕ) where
   run zero at h f = rw add-zero
   run (suc n) at h f =
       let first : getD s at 0 ≡ 0 = rw add-zero at (f 0 (omega arith)) in
-      let place : suc at + n ≡ at + suc n = omega arith in
+      let moved : suc at + n ≡ at + suc n = omega arith in
       ap allZero (drop-cons s at 0 (omega arith))
-      ∙ rw first (run n (suc at) (omega arith) (λ j k. ap (λ (i : ℕ). getD s i 0) (omega arith) ∙ f (suc j) (omega arith)) ∙ rw place)
+      ∙ rw first (run n (suc at) (omega arith) (λ j k. ap (λ (i : ℕ). getD s i 0) (omega arith) ∙ f (suc j) (omega arith)) ∙ rw moved)
 
   first-zero : (at : ℕ) → at < length s → allZero (drop at s) ≡ true → (getD s at 0 ≡ 0) × (allZero (drop (suc at) s) ≡ true)
   first-zero at h e =

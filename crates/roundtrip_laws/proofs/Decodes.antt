@@ -42,11 +42,11 @@ seven n side h =
     (omega arith, flag ((n + 128 * num side) / 128 % 2) side (omega arith))
 
 -- degrees and hundredths of a minute, with a flag above the high byte's seven bits
-place : (degrees hundredths : ℕ) (side : Bool) → degrees ≤ 180 → hundredths ≤ 5999
+coordinate : (degrees hundredths : ℕ) (side : Bool) → degrees ≤ 180 → hundredths ≤ 5999
     → (degrees % 256 ≡ degrees)
     × (word (lowByte hundredths) ((hundredths / 256 % 128 + 128 * num side) % 128) ≡ hundredths)
     × (bit 128 (hundredths / 256 % 128 + 128 * num side) ≡ side)
-place degrees hundredths side d h =
+coordinate degrees hundredths side d h =
     let high = seven (hundredths / 256 % 128) side (omega arith) in
     (omega arith, omega arith, high .1)
 
@@ -102,11 +102,11 @@ decodes (Lamp level) r =
     well 1 _ _ (eq-eqb (4 * (level % 4) % 4) 0 (omega arith)) ∙ ap (λ (n : ℕ). Read (Lamp n)) (omega arith)
 decodes (Latitude degrees hundredths south) r =
     let limits = both-at-most 1 90 degrees 2 5999 hundredths r in
-    let written = place degrees hundredths south (omega arith) (limits .1) in
+    let written = coordinate degrees hundredths south (omega arith) (limits .1) in
     cc
 decodes (Longitude degrees hundredths east) r =
     let limits = both-at-most 1 180 degrees 2 5999 hundredths r in
-    let written = place degrees hundredths east (limits .0) (limits .1) in
+    let written = coordinate degrees hundredths east (limits .0) (limits .1) in
     cc
 decodes (Ground tenths) r = ap (λ (n : ℕ). Read (Ground n)) (omega (arith, at-most 1 65535 tenths r))
 decodes (Course halves) r =
