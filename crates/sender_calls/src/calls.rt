@@ -7,8 +7,8 @@ use sender::Phase;
 use sender::Sender;
 use sender::Verdict;
 
-pub fn called(command: u8, said: Outcome, n: Numbers) -> Outcome {
-    let s = said.sender;
+pub fn called(command: u8, last: Outcome, n: Numbers) -> Outcome {
+    let s = last.sender;
     let bytes = n.bytes;
     match command {
         b'p' | b'P' => sender::poll(s, n.before, n.last),
@@ -19,7 +19,7 @@ pub fn called(command: u8, said: Outcome, n: Numbers) -> Outcome {
             answer: Answer::Ignored,
             sender: fields(bytes),
         },
-        _ => said,
+        _ => last,
     }
 }
 

@@ -9,7 +9,7 @@ use sender::Outcome;
 // What is kept from one character to the next, and so from one block to the next. `command` is 0 in the text, then the brace,
 // then the command's letter; `filled` is how far the output's buffer is filled.
 pub struct Kept {
-    pub said: Outcome,
+    pub outcome: Outcome,
     pub held: Outcome,
     pub numbers: Numbers,
     pub command: u8,
@@ -19,7 +19,7 @@ pub struct Kept {
 pub fn begin() -> Kept {
     let refused = sender::offer(&[], 0, 0);
     let s = refused.sender;
-    let said = sender::poll(s, 0, 0);
+    let outcome = sender::poll(s, 0, 0);
     let numbers = Numbers {
         bytes: [0; 24],
         count: 0,
@@ -29,8 +29,8 @@ pub fn begin() -> Kept {
         reading: false,
     };
     Kept {
-        said: said,
-        held: said,
+        outcome: outcome,
+        held: outcome,
         numbers: numbers,
         command: 0,
         filled: 0,
@@ -76,19 +76,19 @@ fn done(before: Kept, out: &mut [u8]) -> Kept {
     let mut k = before;
     let command = k.command;
     k.command = 0;
-    let said = k.said;
+    let outcome = k.outcome;
     if command == b'h' {
-        k.held = said;
+        k.held = outcome;
         return k;
     }
     if command == b'b' {
         let held = k.held;
-        k.said = held;
+        k.outcome = held;
         return k;
     }
     let numbers = k.numbers;
-    let now = calls::called(command, said, numbers);
-    k.said = now;
-    k.filled = text::told(command, now, out, k.filled);
+    let next = calls::called(command, outcome, numbers);
+    k.outcome = next;
+    k.filled = text::shown(command, next, out, k.filled);
     k
 }

@@ -8,9 +8,9 @@ use sender::Outcome;
 use sender::Phase;
 use sender::Sender;
 
-pub fn told(command: u8, said: Outcome, out: &mut [u8], filled: usize) -> usize {
-    let s = said.sender;
-    let a = said.answer;
+pub fn shown(command: u8, outcome: Outcome, out: &mut [u8], filled: usize) -> usize {
+    let s = outcome.sender;
+    let a = outcome.answer;
     match command {
         b'p' | b'e' | b'a' => answer(a, b"ignored", out, filled),
         b'o' | b'k' => answer(a, b"accepted", out, filled),
@@ -23,7 +23,7 @@ pub fn told(command: u8, said: Outcome, out: &mut [u8], filled: usize) -> usize 
     }
 }
 
-// An offer that is not refused leaves the answer that nothing was done, which is told in these words.
+// An offer that is not refused leaves the answer that nothing was done, which these words say.
 fn answer(a: Answer, ignored: &[u8], out: &mut [u8], filled: usize) -> usize {
     match a {
         Answer::Wait(n) => {

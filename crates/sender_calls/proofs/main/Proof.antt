@@ -1,4 +1,4 @@
--- `main` ends: each turn uses up one of the reads that a counter can count.
+-- `main` ends: each iteration uses up one of the reads that a counter can count.
 use borrow.Author.Needs.{needs}
 use mathlib.Core.Path.{_≡_}
 use lib.ListN.{length}

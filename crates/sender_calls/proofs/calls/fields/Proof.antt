@@ -1,4 +1,4 @@
--- `fields` stays within the 24 numbers and the 18 bytes, and takes one turn for each of these.
+-- `fields` stays within the 24 numbers and the 18 bytes, and takes one iteration for each of these.
 use borrow.Author.Needs.{needs}
 use Prim.Native.Nat.{_-_}
 use mathlib.Core.Path.{_≡_}
