@@ -9,7 +9,7 @@
 #include <string.h>
 #include <time.h>
 
-enum { MESSAGES = 4096, SYMBOLS = 32768, CALLS = 1 << 21, ROUNDS = 25 };
+enum { MESSAGES = 4096, SYMBOLS = 32768, CALLS = 1 << 21, ROUNDS = 25, BIT_TIMES = 11 /* of a symbol */ };
 
 /* A message as the writer takes it and as the reader takes it. */
 struct message {
@@ -136,6 +136,17 @@ static double now(void)
             *sum += written[4];                                                                                        \
         }                                                                                                              \
         return (now() - start) / CALLS;                                                                                \
+    }                                                                                                                  \
+    static double record_##who(uint64_t *sum)                                                                          \
+    {                                                                                                                  \
+        uint8_t record[SEATALK_RECORD_SIZE] = {0};                                                                     \
+        double start = now();                                                                                          \
+        for (size_t i = 0; i < CALLS; i++) {                                                                           \
+            uint32_t time = BIT_TIMES * (uint32_t)i;                                                                   \
+            *sum += (uint64_t)(int64_t)who##_record(time, symbols[i % SYMBOLS], record, sizeof record);                \
+            *sum += record[6];                                                                                         \
+        }                                                                                                              \
+        return (now() - start) / CALLS;                                                                                \
     }
 
 ROUNDS_OF(seatalk)
@@ -160,6 +171,9 @@ static void compare(void)
         same("hear", a, b, result[0], result[1], sizeof result[0]);
         same("hear's state", 0, 0, state[0], state[1], sizeof state[0]);
         handed += result[0][0] == SEATALK_HANDED_OUT;
+        a = seatalk_record(BIT_TIMES * (uint32_t)i, symbols[i], result[0], sizeof result[0]);
+        b = plain_record(BIT_TIMES * (uint32_t)i, symbols[i], result[1], sizeof result[1]);
+        same("record", a, b, result[0], result[1], sizeof result[0]);
     }
     for (size_t i = 0; i < MESSAGES; i++) {
         const struct message *m = &messages[i];
@@ -171,7 +185,8 @@ static void compare(void)
         b = plain_write(m->command, m->fields, m->fields_length, result[1], sizeof result[1]);
         same("write", a, b, result[0], result[1], sizeof result[0]);
     }
-    printf("same answers: %d symbols with %zu datagrams handed out; %d messages, %zu of their datagrams refused\n",
+    printf("same answers: %d symbols and their records, %zu datagrams handed out; "
+           "%d messages, %zu of their datagrams refused\n",
            (int)SYMBOLS, handed, (int)MESSAGES, refused);
 }
 
@@ -184,6 +199,7 @@ int main(void)
         {"hear", hear_seatalk, hear_plain},
         {"read", read_seatalk, read_plain},
         {"write", write_seatalk, write_plain},
+        {"record", record_seatalk, record_plain},
     };
 
     make_messages();
@@ -202,7 +218,7 @@ int main(void)
             fprintf(stderr, "host: the two differ in what was timed of %s\n", calls[i].name);
             return 1;
         }
-        printf("%-5s library %5.1f ns a call, C %5.1f ns, library / C %.2f\n", calls[i].name, library, plain,
+        printf("%-6s library %5.1f ns a call, C %5.1f ns, library / C %.2f\n", calls[i].name, library, plain,
                library / plain);
     }
     return 0;

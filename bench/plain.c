@@ -1,11 +1,11 @@
-/* Listener, reader and writer of include/seatalk.h in plain C99, under the names plain_hear, plain_read, plain_write:
-   what bench/host times the library against. It can stand in for the library when the names are given to the compiler
-   (-Dplain_hear=seatalk_hear and so on), to try tests/boundary itself. */
+/* Listener, reader, writer and recording writer of include/seatalk.h in plain C99, under the names plain_hear,
+   plain_read, plain_write, plain_record: what bench/host times the library against. It can stand in for the library
+   when the names are given to the compiler (-Dplain_hear=seatalk_hear and so on), to try tests/boundary itself. */
 #include "plain.h"
 
 #include <string.h>
 
-enum { STATE = 18, HEARD = 20, HELD = 17 };
+enum { STATE = 18, HEARD = 20, HELD = 17, RECORD = 8 };
 enum { OPENED, CANCELLED, STRAY, KEPT, HANDED_OUT };
 
 static inline uint64_t load(const uint8_t *p)
@@ -441,4 +441,20 @@ int32_t plain_write(uint32_t command, const uint8_t *fields, size_t fields_lengt
     default:
         return -4;
     }
+}
+
+int32_t plain_record(uint32_t time, uint32_t symbol, uint8_t *result, size_t result_length)
+{
+    if (symbol > 511)
+        return -1;
+    ROOM(RECORD);
+    result[0] = 0x53;
+    result[1] = 0x54;
+    result[2] = (uint8_t)time;
+    result[3] = (uint8_t)(time >> 8);
+    result[4] = (uint8_t)(time >> 16);
+    result[5] = (uint8_t)(time >> 24);
+    result[6] = (uint8_t)symbol;
+    result[7] = (uint8_t)(symbol >> 8);
+    return RECORD;
 }

@@ -22,7 +22,7 @@ struct depth {
 };
 
 static struct depth hear = {.name = "seatalk_hear"}, reading = {.name = "seatalk_read"},
-                    writing = {.name = "seatalk_write"};
+                    writing = {.name = "seatalk_write"}, recording = {.name = "seatalk_record"};
 
 static _Alignas(16) uint8_t stack[STACK];
 static uint64_t seed = 4800;
@@ -119,13 +119,25 @@ static void measure_read_and_write(void)
     }
 }
 
+static void measure_record(void)
+{
+    uint8_t record[SEATALK_RECORD_SIZE];
+    for (unsigned i = 0; i < ROUNDS; i++) {
+        uint32_t time = below(UINT32_MAX), symbol = below(50) == 0 ? 512 + below(UINT32_MAX - 511) : below(512);
+        size_t room = below(50) == 0 ? below(SEATALK_RECORD_SIZE) : sizeof record;
+        for (unsigned twice = 0; twice < 2; twice++)
+            measure(&recording, (const void *)seatalk_record, time, symbol, POINTER(record), room, 0);
+    }
+}
+
 int main(void)
 {
-    const struct depth *all[] = {&hear, &reading, &writing};
+    const struct depth *all[] = {&hear, &reading, &writing, &recording};
     measure_hear();
     measure_read_and_write();
+    measure_record();
     for (size_t i = 0; i < sizeof all / sizeof all[0]; i++) {
-        printf("%-13s %4lu bytes of stack at most, in %lu calls; refused:", all[i]->name, all[i]->most, all[i]->calls);
+        printf("%-14s %4lu bytes of stack at most, in %lu calls; refused:", all[i]->name, all[i]->most, all[i]->calls);
         for (unsigned n = 0; n < sizeof all[i]->refused / sizeof all[i]->refused[0]; n++)
             if (all[i]->refused[n] > 0)
                 printf(" %lu with %u", all[i]->refused[n], n);

@@ -1,4 +1,4 @@
-/* SeaTalk listener, reader and writer for C firmware.
+/* SeaTalk listener, reader, writer and recording writer for C firmware.
  *
  * Every call returns an int32_t.
  *   At least 0: accepted. It is the number of bytes of the result, which stand at the front of the result buffer;
@@ -49,6 +49,7 @@ extern "C" {
 #define SEATALK_DATAGRAM_SIZE 18   /* at most, a datagram */
 #define SEATALK_FIELDS_SIZE 24     /* at most, the fields of a kind */
 #define SEATALK_SYMBOLS_SIZE 14    /* at most, the symbols of a kind */
+#define SEATALK_RECORD_SIZE 8      /* a record of a recording */
 
 /* One symbol heard (rules 11.3).
  *
@@ -82,6 +83,19 @@ int32_t seatalk_read(const uint8_t *bytes, size_t bytes_length, uint8_t *result,
  */
 int32_t seatalk_write(uint32_t command, const uint8_t *fields, size_t fields_length, uint8_t *result,
                       size_t result_length);
+
+/* One record of a recording, the file that buslist lists (rules 11.6).
+ *
+ * time: when the symbol was heard, in bit times; any number.
+ * symbol: 0..511 as it was heard, with its command bit, 256. The whole 32-bit number is looked at.
+ * result, 8 bytes: the mark 53 54 in hex, the time in 4 and the symbol in 2, low byte first.
+ *
+ * A recording is such records one after the other, with nothing before, between or behind them: after each that was
+ * accepted, result moves on by 8 and result_length is 8 less.
+ *
+ * Returns 8. Refusals, the first that holds: 1, 8 (result_length below 8).
+ */
+int32_t seatalk_record(uint32_t time, uint32_t symbol, uint8_t *result, size_t result_length);
 
 /* The kinds (rules 4.2): command in hex, length of the datagram in bytes, fields in order with their ranges; "flag" is 0
  * or 1.

@@ -1,7 +1,7 @@
 //! The calls that are compared, in sections.
 
 use crate::compare::{Compared, Comparison, ROOM};
-use crate::second::{Field, Kind, HEARD, KINDS, LONGEST, STATE};
+use crate::second::{Field, Kind, HEARD, KINDS, LONGEST, RECORD, STATE};
 
 /// How many of the calls are made: one in so many of the large sections and of the sections of limits, and how many
 /// symbols of a random bus.
@@ -80,6 +80,10 @@ const ABOVE: &[u32] = &[
     0xFFFF_FE20,
     0xFFFF_FFFF,
 ];
+
+/// Times of a record: around each number of bytes, four bytes that differ, and around the sign.
+const TIMES: &[u32] =
+    &[0, 1, 255, 256, 65535, 65536, 0x00FF_FFFF, 0x0100_0000, 0x1234_5678, 0x7FFF_FFFF, 0x8000_0000, 0xFFFF_FFFF];
 
 const EMPTY: [u8; STATE] = [0; STATE];
 
@@ -585,6 +589,41 @@ fn said(c: &mut Comparison, random: &mut Random, symbols: &mut Vec<u32>) -> Comp
     Ok(())
 }
 
+/// Every symbol and those above with every time of the list; every bit of the time and every length of the result,
+/// with symbols of every sort; and random ones.
+pub fn records(c: &mut Comparison, effort: Effort, random: &mut Random) -> Compared<()> {
+    const SYMBOLS: [u32; 8] = [0x000, 0x03E, 0x0FF, 0x100, 0x120, 0x1FF, 512, 65536 + 0x120];
+    for symbol in (0..=1100).chain(ABOVE.iter().copied()) {
+        for &time in TIMES {
+            if random.one_in(effort.limits) {
+                c.record(time, symbol, RECORD)?;
+            }
+        }
+    }
+    for time in TIMES.iter().copied().chain((0..32).map(|bit| 1 << bit)) {
+        for symbol in SYMBOLS {
+            c.record(time, symbol, ROOM)?;
+        }
+    }
+    for room in (0..=20).chain([ROOM]) {
+        for symbol in SYMBOLS {
+            c.record(random.pick(TIMES), symbol, room)?;
+        }
+    }
+    // Random ones; one symbol in eight is above 511 with low bits that would be a symbol.
+    for _ in 0..2_000_000 / effort.large {
+        let time = random.next() as u32;
+        let symbol = match random.below(8) {
+            0 => random.next() as u32,
+            1 => random.next() as u32 & !0xFE00 | 1 << (16 + random.below(16)),
+            _ => random.below(520) as u32,
+        };
+        let room = if random.one_in(8) { random.below(ROOM as u64 + 1) as usize } else { RECORD };
+        c.record(time, symbol, room)?;
+    }
+    Ok(())
+}
+
 pub type Section = (&'static str, fn(&mut Comparison, Effort, &mut Random) -> Compared<()>);
 
 pub const SECTIONS: &[Section] = &[
@@ -599,4 +638,5 @@ pub const SECTIONS: &[Section] = &[
     ("every command", every_command),
     ("every length of result", every_room),
     ("random bus", bus),
+    ("records", records),
 ];

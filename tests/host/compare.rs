@@ -18,12 +18,14 @@ pub const ROOM: usize = 64;
 #[derive(Default)]
 pub struct Seen {
     /// By call and refusal number.
-    refused: [[u64; 16]; 3],
+    refused: [[u64; 16]; 4],
     /// The listener's answers.
     answers: [u64; 8],
     /// Messages read and written, by place in the table of kinds.
     read: [u64; 20],
     written: [u64; 20],
+    /// Records written.
+    records: u64,
 }
 
 pub struct Comparison {
@@ -43,6 +45,11 @@ pub struct Comparison {
 
 fn hex(bytes: &[u8]) -> String {
     bytes.iter().map(|byte| format!("{byte:02X}")).collect::<Vec<_>>().join(" ")
+}
+
+/// The time that `Comparison::record` gives as an input.
+fn time_of(input: &[u8]) -> u32 {
+    u32::from_le_bytes(input.try_into().expect("four bytes of time"))
 }
 
 impl Comparison {
@@ -94,6 +101,16 @@ impl Comparison {
         Ok(got)
     }
 
+    /// The recording writer has no input buffer. So that `call` serves it too, the time goes there as an input of four
+    /// bytes and the symbol as the number; the library is given the two numbers.
+    pub fn record(&mut self, time: u32, symbol: u32, room: usize) -> Compared<i32> {
+        let got = self.call(Call::Record, &time.to_le_bytes(), symbol, room)?;
+        if got >= 0 {
+            self.seen.records += 1;
+        }
+        Ok(got)
+    }
+
     /// One call of both. A result buffer is filled differently from call to call, so that no byte written is like
     /// the one that stood there every time.
     fn call(&mut self, call: Call, input: &[u8], number: u32, room: usize) -> Compared<i32> {
@@ -107,6 +124,7 @@ impl Comparison {
             Call::Hear => self.second.hear(wanted_input, number, wanted_result),
             Call::Read => self.second.read(wanted_input, wanted_result),
             Call::Write => self.second.write(number, wanted_input, wanted_result),
+            Call::Record => self.second.record(time_of(wanted_input), number, wanted_result),
         };
 
         let given = self.input.lend(input, turn);
@@ -119,6 +137,7 @@ impl Comparison {
                 Call::Hear => (self.library.hear)(given, input.len(), number, result, room),
                 Call::Read => (self.library.read)(given, input.len(), result, room),
                 Call::Write => (self.library.write)(number, given, input.len(), result, room),
+                Call::Record => (self.library.record)(time_of(input), number, result, room),
             }
         };
         self.input.hold(false);
@@ -197,9 +216,12 @@ impl Seen {
     /// What was never compared, of all that the calls can do.
     pub fn missing(&self) -> Vec<String> {
         let mut missing = Vec::new();
-        for (call, numbers) in
-            [(Call::Hear, &[1, 2, 8][..]), (Call::Read, &[3, 4, 5, 6, 7, 8]), (Call::Write, &[4, 5, 7, 8])]
-        {
+        for (call, numbers) in [
+            (Call::Hear, &[1, 2, 8][..]),
+            (Call::Read, &[3, 4, 5, 6, 7, 8]),
+            (Call::Write, &[4, 5, 7, 8]),
+            (Call::Record, &[1, 8]),
+        ] {
             for &number in numbers {
                 if self.refused[call as usize][number] == 0 {
                     missing.push(format!("{call:?}: refusal {number}"));
@@ -218,6 +240,9 @@ impl Seen {
                 }
             }
         }
+        if self.records == 0 {
+            missing.push("a record written".to_string());
+        }
         missing
     }
 
@@ -231,5 +256,9 @@ impl Seen {
 
     pub fn written(&self) -> u64 {
         self.written.iter().sum()
+    }
+
+    pub fn records(&self) -> u64 {
+        self.records
     }
 }

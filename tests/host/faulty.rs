@@ -98,6 +98,16 @@ unsafe extern "C" fn symbols_written_before(
     (LINKED.write)(command, fields, n, result, room)
 }
 
+unsafe extern "C" fn record_written_past(time: u32, symbol: u32, result: *mut u8, room: usize) -> i32 {
+    flip(result.add(room));
+    (LINKED.record)(time, symbol, result, room)
+}
+
+unsafe extern "C" fn record_written_before(time: u32, symbol: u32, result: *mut u8, room: usize) -> i32 {
+    flip(result.sub(1));
+    (LINKED.record)(time, symbol, result, room)
+}
+
 pub const FAULTY: &[Faulty] = &[
     Faulty { name: "state-written-past", library: Library { hear: state_written_past, ..LINKED }, guarded: true },
     Faulty { name: "state-read-past", library: Library { hear: state_read_past, ..LINKED }, guarded: false },
@@ -113,6 +123,12 @@ pub const FAULTY: &[Faulty] = &[
     Faulty {
         name: "symbols-written-before",
         library: Library { write: symbols_written_before, ..LINKED },
+        guarded: true,
+    },
+    Faulty { name: "record-written-past", library: Library { record: record_written_past, ..LINKED }, guarded: true },
+    Faulty {
+        name: "record-written-before",
+        library: Library { record: record_written_before, ..LINKED },
         guarded: true,
     },
 ];

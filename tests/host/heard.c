@@ -1,8 +1,10 @@
-/* What a logger's firmware does with include/seatalk.h: hears symbols, says what it heard, and writes messages back
-   into symbols. tests/boundary compares its output with heard.expected. C99 that is C++ as well. */
+/* What a logger's firmware does with include/seatalk.h: hears symbols, says what it heard, writes messages back into
+   symbols, and symbols into a recording. tests/boundary compares its output with heard.expected. C99 that is C++ as
+   well. */
 #include "seatalk.h"
 
 #include <stdio.h>
+#include <string.h>
 
 /* The ten symbols of rules 10.4: a stray, a datagram cut off by a collision, its repeat, and a variation. Then a depth cut
    off after four of five symbols by a key, with a symbol above 511 inside the key; a key whose repeat does not match;
@@ -115,6 +117,48 @@ static void write_all(void)
     write_one(0x27, coldest, 1, 7);
 }
 
+static void print_bytes(const uint8_t *bytes, size_t length)
+{
+    for (size_t i = 0; i < length; i++)
+        printf(" %02X", (unsigned)bytes[i]);
+    printf("\n");
+}
+
+/* The buffer is printed also where the call is refused, to show that it stays. */
+static void record_one(uint32_t time, uint32_t symbol, size_t room)
+{
+    uint8_t record[SEATALK_RECORD_SIZE];
+    int32_t size;
+    memset(record, 0xEE, sizeof record);
+    printf("record %lu %03X, room %u: ", (unsigned long)time, (unsigned)symbol, (unsigned)room);
+    size = seatalk_record(time, symbol, record, room);
+    if (size < 0)
+        print_refusal(size);
+    else
+        printf("%d bytes", (int)size);
+    printf(",");
+    print_bytes(record, sizeof record);
+}
+
+/* Records, one for each refusal, and a recording of the first two records of rules 10.4. */
+static void record_all(void)
+{
+    static const uint32_t times[] = {100, 200};
+    uint8_t recording[2 * SEATALK_RECORD_SIZE];
+    size_t length = 0;
+    record_one(100, 0x03E, SEATALK_RECORD_SIZE);
+    record_one(UINT32_MAX, 0x1FF, SEATALK_RECORD_SIZE);
+    record_one(100, 512, SEATALK_RECORD_SIZE);
+    record_one(100, 0x03E, SEATALK_RECORD_SIZE - 1);
+    for (size_t i = 0; i < sizeof times / sizeof times[0]; i++) {
+        int32_t size = seatalk_record(times[i], bus[i], recording + length, sizeof recording - length);
+        if (size > 0)
+            length += (size_t)size;
+    }
+    printf("recording:");
+    print_bytes(recording, length);
+}
+
 /* The header's own functions and sizes. */
 static void check_header(void)
 {
@@ -143,6 +187,7 @@ int main(void)
 {
     hear_all();
     write_all();
+    record_all();
     check_header();
     return 0;
 }

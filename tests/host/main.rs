@@ -63,7 +63,7 @@ fn all() -> bool {
         let (handed, read, written) = (c.seen.handed(), c.seen.read(), c.seen.written());
         let symbols = FULL.symbols;
         println!("compared: the random bus has {symbols} symbols; of all sections {handed} datagrams were handed out,");
-        println!("compared: {read} messages read and {written} written");
+        println!("compared: {read} messages read and {written} written, and {} records written", c.seen.records());
         let before = c.calls;
         if let Ok(examples) = reference::examples(&mut c) {
             println!("compared: {:>9} calls: {examples} worked examples", c.calls - before);

@@ -191,6 +191,36 @@ rules! {
     WriteVariation: "99: written west positive",
     WriteEvenRight: "9C: an even degree turning right is written as turning left",
     WriteNorthRight: "9C: north turning right is written in the first quarter",
+    // The recording writer.
+    RecordMarkSwapped: "the mark's two bytes are swapped",
+    RecordMarkSecond: "the mark's second byte is 53",
+    RecordMarkFirst: "the mark's first byte is 54",
+    RecordMarkLast: "the mark stands behind the symbol",
+    RecordMarkStays: "the mark is not written",
+    RecordTimeHighFirst: "a record's time is written high byte first",
+    RecordTimeHalves: "a record's time is written with its halves swapped",
+    RecordTimeOf31Bits: "a record's time has 31 bits",
+    RecordTimeOf24Bits: "a record's time has 24 bits",
+    RecordTimeOf16Bits: "a record's time has 16 bits",
+    RecordTimeSign: "a time above 31 bits is refused",
+    RecordLargestTime: "the largest time is refused",
+    RecordSymbolHighFirst: "a record's symbol is written high byte first",
+    RecordSymbolFirst: "a record's symbol stands before its time",
+    RecordNinthBitLost: "a record's symbol loses the ninth bit",
+    RecordNinthBitSet: "a record's symbol always has the ninth bit",
+    RecordHighByteStays: "the high byte of a record's symbol is not written",
+    Record511: "511 is not recorded",
+    Record512: "512 is recorded",
+    RecordSymbolOf16Bits: "a recorded symbol's bits above 16 are not looked at",
+    RecordSymbolOf9Bits: "a recorded symbol's bits above 9 are not looked at",
+    RecordRoom7: "7 bytes are room for a record",
+    RecordRoom9: "a record needs 9 bytes",
+    RecordAtEnd: "a record stands at the end of the buffer",
+    RecordPastCleared: "bytes past a record become 0",
+    RecordAboveWritten: "a record with a symbol above 511 is refused and written",
+    RecordCutWritten: "a record without room is written in part",
+    RecordReturnsCount: "the recording writer returns the number of records",
+    RecordReturnsRoom: "the recording writer returns the length of the buffer",
 }
 
 /// For each call the pairs of refusals that can hold at once, the one that goes second first.
@@ -215,6 +245,7 @@ const ORDERS: &[(Call, u8, u8)] = &[
     (Call::Write, 7, 5),
     (Call::Write, 8, 5),
     (Call::Write, 8, 7),
+    (Call::Record, 8, 1),
 ];
 
 /// Every broken rule and what it is.

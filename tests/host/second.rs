@@ -1,5 +1,5 @@
-//! The listener, the reader and the writer behind the C boundary, written a second time from the text of docs/RULES.md alone.
-//! One rule at a time can be broken, to try whether the comparison sees it.
+//! The listener, the reader, the writer and the recording writer behind the C boundary, written a second time from the
+//! text of docs/RULES.md alone. One rule at a time can be broken, to try whether the comparison sees it.
 
 use crate::library::Call;
 use crate::rules::{Broken, Rule};
@@ -64,6 +64,7 @@ impl Kind {
 
 pub const STATE: usize = 18;
 pub const HEARD: usize = 20;
+pub const RECORD: usize = 8;
 pub const LONGEST: usize = 18;
 pub const MOST_FIELDS: usize = 6;
 /// No input is longer than this.
@@ -73,6 +74,7 @@ pub const INPUT: usize = 64;
 const HEAR_ORDER: &[u8] = &[1, 2, 8];
 const READ_ORDER: &[u8] = &[3, 4, 5, 6, 7, 8];
 const WRITE_ORDER: &[u8] = &[4, 5, 7, 8];
+const RECORD_ORDER: &[u8] = &[1, 8];
 
 type Fields = [i32; MOST_FIELDS];
 
@@ -682,5 +684,75 @@ impl Second {
         bytes[0] = command;
         bytes[1..7].copy_from_slice(&after);
         bytes
+    }
+
+    pub fn record(&self, time: u32, symbol: u32, result: &mut [u8]) -> i32 {
+        let judged = match self.rule {
+            Some(Rule::RecordSymbolOf16Bits) => symbol % 65536,
+            Some(Rule::RecordSymbolOf9Bits) => symbol % 512,
+            _ => symbol,
+        };
+        let refused_time = match self.rule {
+            Some(Rule::RecordLargestTime) => time == u32::MAX,
+            Some(Rule::RecordTimeSign) => time > 0x7FFF_FFFF,
+            _ => false,
+        };
+        let mut holds = [false; 9];
+        holds[1] = judged > self.or(Rule::Record512, self.or(Rule::Record511, 511, 510), 512) || refused_time;
+        holds[8] = result.len() < self.or(Rule::RecordRoom7, self.or(Rule::RecordRoom9, self.room(RECORD), 9), 7);
+        let bytes = self.record_bytes(time, judged as u16);
+        let size = result.len().min(RECORD);
+        if let Some(number) = self.first(Call::Record, RECORD_ORDER, &holds) {
+            if self.is(if number == 1 { Rule::RecordAboveWritten } else { Rule::RecordCutWritten }) {
+                result[..size].copy_from_slice(&bytes[..size]);
+            }
+            return self.refused(number, result);
+        }
+        let written = match self.rule {
+            Some(Rule::RecordMarkStays) => 2..size,
+            Some(Rule::RecordHighByteStays) => 0..size - 1,
+            _ => 0..size,
+        };
+        let front = self.or(Rule::RecordAtEnd, 0, result.len() - size);
+        result[front..][written.clone()].copy_from_slice(&bytes[written]);
+        if self.is(Rule::RecordPastCleared) {
+            result[size..].fill(0);
+        }
+        self.past_result(result, size);
+        match self.rule {
+            Some(Rule::RecordReturnsCount) => 1,
+            Some(Rule::RecordReturnsRoom) => result.len() as i32,
+            _ => size as i32,
+        }
+    }
+
+    fn record_bytes(&self, time: u32, symbol: u16) -> [u8; RECORD] {
+        use Rule::*;
+        let mark = match self.rule {
+            Some(RecordMarkSwapped) => [0x54, 0x53],
+            Some(RecordMarkSecond) => [0x53, 0x53],
+            Some(RecordMarkFirst) => [0x54, 0x54],
+            _ => [0x53, 0x54],
+        };
+        let time = match self.rule {
+            Some(RecordTimeHighFirst) => time.to_be_bytes(),
+            Some(RecordTimeHalves) => time.rotate_left(16).to_le_bytes(),
+            Some(RecordTimeOf31Bits) => (time & 0x7FFF_FFFF).to_le_bytes(),
+            Some(RecordTimeOf24Bits) => (time & 0x00FF_FFFF).to_le_bytes(),
+            Some(RecordTimeOf16Bits) => (time & 0xFFFF).to_le_bytes(),
+            _ => time.to_le_bytes(),
+        };
+        let symbol = match self.rule {
+            Some(RecordSymbolHighFirst) => symbol.to_be_bytes(),
+            Some(RecordNinthBitLost) => (symbol & 255).to_le_bytes(),
+            Some(RecordNinthBitSet) => (symbol | 256).to_le_bytes(),
+            _ => symbol.to_le_bytes(),
+        };
+        let (m, t, s) = (mark, time, symbol);
+        match self.rule {
+            Some(RecordSymbolFirst) => [m[0], m[1], s[0], s[1], t[0], t[1], t[2], t[3]],
+            Some(RecordMarkLast) => [t[0], t[1], t[2], t[3], s[0], s[1], m[0], m[1]],
+            _ => [m[0], m[1], t[0], t[1], t[2], t[3], s[0], s[1]],
+        }
     }
 }

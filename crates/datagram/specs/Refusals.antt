@@ -41,7 +41,7 @@ badRepeat = refusal 6
 abbrev pub outOfRange : ℕ → Refusal
 outOfRange field = refusal 7
 
--- no room for the symbols in the lent buffer
+-- no room for the result in the lent buffer
 abbrev pub noRoom : Refusal
 noRoom = refusal 8
 
@@ -53,6 +53,10 @@ badWaitOrLimit = refusal 9
 abbrev pub noMark : ℕ → Refusal
 noMark = refusalAt 10
 
+-- the times and the symbols of a run of records are not as many
+abbrev pub differentLengths : Refusal
+differentLengths = refusal 11
+
 -- a record is cut short
 abbrev pub cutShort : ℕ → Refusal
-cutShort = refusalAt 11
+cutShort = refusalAt (differentLengths .number)

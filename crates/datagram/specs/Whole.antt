@@ -13,10 +13,14 @@ declared second = 3 + second % 16
 unfoldable pub whole : List ℕ → Bool
 whole bytes = leb 3 (length bytes) && (leb (length bytes) 18 && eqb (length bytes) (declared (getD bytes 1 0)))
 
+-- every number is below a limit
+abbrev pub allBelow : ℕ → List ℕ → Bool
+allBelow limit [] = true
+allBelow limit (x ∷ xs) = ltb x limit && allBelow limit xs
+
 -- every number is a byte
 abbrev pub allBytes : List ℕ → Bool
-allBytes [] = true
-allBytes (x ∷ xs) = ltb x 256 && allBytes xs
+allBytes = allBelow 256
 
 -- the symbols of a datagram: the command bit, 256, is set on the first alone
 abbrev pub symbols : List ℕ → List ℕ

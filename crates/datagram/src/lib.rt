@@ -13,6 +13,12 @@ pub struct Refusal {
     pub place: u64,
 }
 
+// What storing in a lent buffer answers: how many numbers were stored, or the refusal.
+pub enum Written {
+    Wrote(usize),
+    Refused(Refusal),
+}
+
 // Whether the bytes are one whole datagram.
 pub fn is_whole(bytes: &[u8]) -> bool
     ensures { λ r. ⌜ r ≡ whole (now (bytes .entry)) ⌝ }

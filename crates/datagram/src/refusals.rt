@@ -67,11 +67,17 @@ pub fn no_mark(offset: usize) -> Refusal
     refusal_at(10, offset)
 }
 
+// The two lists of a run of records are not as long as each other.
+pub const DIFFERENT_LENGTHS: Refusal = Refusal {
+    number: 11,
+    place: 0,
+};
+
 // A record cut short.
 pub fn cut_short(offset: usize) -> Refusal
     ensures { λ r. ⌜ r ≡ cutShort offset ⌝ }
 {
-    refusal_at(11, offset)
+    refusal_at(DIFFERENT_LENGTHS.number, offset)
 }
 
 // A refusal of the recording reader, whose place is the record's offset.

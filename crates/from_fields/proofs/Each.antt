@@ -6,17 +6,9 @@ use native.Mathlib.Nat.{mul-zero, mul-suc}
 use native.Mathlib.Numerals.{add-one}
 use native.Mathlib.Omega.{arith}
 use lib.ListN.{length, getD, take, drop, length-append, length-drop}
-use lib.Seq.{take-suc, length-take-le, sets, sets-eq, take-at, drop-append-add, drop-drop}
+use lib.Seq.{take-suc, length-take-le, sets}
+use Rattle.datagram.proofs.Lent.{grown}
 use Rattle.from_fields.specs.Numbers.{each}
-
--- stores after what stands at the front already
-grown : (done vs l : List ℕ) (at : ℕ) → length done ≡ at → at + length vs ≤ length l
-    → sets (done ++ drop at l) at vs ≡ done ++ vs ++ drop (at + length vs) l
-grown done vs l at e h =
-    let whole : length (done ++ drop at l) ≡ length l = simp (length-append, length-drop) (omega arith) in
-    let rest : drop (at + length vs) (done ++ drop at l) ≡ drop (at + length vs) l =
-    ap (λ (n : ℕ). drop (n + length vs) (done ++ drop at l)) (sym e) ∙ drop-append-add done (drop at l) (length vs) ∙ drop-drop (length vs) at l in
-    sets-eq vs (done ++ drop at l) at (omega arith) ∙ rw (take-at done (drop at l) at e, rest)
 
 module _ {A : Type 0} (f : A → List ℕ) (k : ℕ) (sized : (x : A) → length (f x) ≡ k) where
   pub each-length : (xs : List A) → length (each f xs) ≡ k * length xs

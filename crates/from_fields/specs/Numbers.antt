@@ -1,14 +1,10 @@
 -- Fields as the C host lays them out: 4 bytes each, signed, low byte first (rules 11.2).
-use Prim.Native.Nat.{ℕ, _/_, _%_}
+use Prim.Native.Nat.{ℕ}
 use mathlib.Core.List.{List, [], _∷_, _++_}
 use lib.IntN.{ℤ}
 use mir.Syntax.{w32}
 use mir.Val.{SFits, toZ, ofZ}
-use Rattle.number.specs.Word.{long}
-
--- the four bytes of 32 bits
-abbrev pub wordBytes : ℕ → List ℕ
-wordBytes n = (n % 256) ∷ (n / 256 % 256) ∷ (n / 65536 % 256) ∷ (n / 16777216 % 256) ∷ []
+use Rattle.number.specs.Word.{long, longBytes}
 
 -- each number has 32 bits with its sign
 abbrev pub AllFit : List ℤ → Type 0
@@ -21,7 +17,7 @@ each f [] = []
 each f (x ∷ xs) = f x ++ each f xs
 
 abbrev pub fieldBytes : ℤ → List ℕ
-fieldBytes z = wordBytes (ofZ w32 z)
+fieldBytes z = longBytes (ofZ w32 z)
 
 abbrev pub fieldsBytes : List ℤ → List ℕ
 fieldsBytes zs = each fieldBytes zs

@@ -10,8 +10,9 @@ use Rattle.message.specs.declared.Verdict.{Verdict}
 use Rattle.message.specs.declared.Verdict.the-variants as verdict
 use Rattle.message.specs.Spelling.{bytesOf}
 use Rattle.sender.specs.Step.{offerOf, refusedOffer}
-use Rattle.writer.specs.declared.Written.the-variants.{Wrote, Refused}
-use Rattle.writer.specs.Writing.{Outcome, outcome, ruledWrite}
+use Rattle.datagram.specs.declared.Written.the-variants.{Wrote, Refused}
+use Rattle.datagram.specs.Position.{Outcome, outcome}
+use Rattle.writer.specs.Writing.{ruledWrite}
 use Rattle.key_sender.specs.Key.{offeredBy}
 
 abbrev room : List ℕ

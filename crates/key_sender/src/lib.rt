@@ -1,7 +1,7 @@
 // The key sender: a keystroke, datagram 86, offered to the bus.
+use datagram::Written;
 use message::Message;
 use sender::Offered;
-use writer::Written;
 ghost use mathlib.Core.Path.{_≡_};
 ghost use Rattle.key_sender.specs.Key.{keyOf};
 

@@ -22,7 +22,8 @@ use Rattle.message.specs.declared.Verdict.the-variants.{InRange}
 use Rattle.message.specs.Range.{rangeOf}
 use Rattle.message.specs.Reading.{readOf}
 use Rattle.message.specs.Spelling.{bytesOf}
-use Rattle.writer.specs.Writing.{Outcome, ruledWrite, writeOf}
+use Rattle.datagram.specs.Position.{Outcome}
+use Rattle.writer.specs.Writing.{ruledWrite, writeOf}
 use Rattle.roundtrip_laws.proofs.RoundTrip.{round-trip}
 use Rattle.listener_laws.specs.Form.{symbolsIn, Below, none, one-more}
 use Rattle.listener_laws.specs.Demand.{run, handedOut, Demand3}

@@ -17,8 +17,8 @@ use Rattle.message.specs.declared.Reading.the-variants.{Read}
 use Rattle.message.specs.declared.Verdict.the-variants.{InRange}
 use Rattle.message.specs.Range.{rangeOf}
 use Rattle.message.specs.Spelling.{bytesOf, symbolsOf}
-use Rattle.writer.specs.Writing.{Outcome, outcome}
-use Rattle.writer.specs.declared.Written.the-variants.{Wrote}
+use Rattle.datagram.specs.Position.{Outcome, outcome}
+use Rattle.datagram.specs.declared.Written.the-variants.{Wrote}
 use Rattle.listener_laws.specs.Form.{Due, nothing, hands, refusal, Call, HeardAs, symbolsIn}
 
 -- each symbol is one call, in the state that the call before it returned, refused or not

@@ -1,16 +1,10 @@
 -- The recording of rules 10.4, and the four lines that it lists as.
-use Prim.Native.Nat.{ℕ, _/_, _%_}
+use Prim.Native.Nat.{ℕ}
 use mathlib.Core.Path.{_≡_}
-use mathlib.Core.List.{List, [], _∷_, _++_}
+use mathlib.Core.List.{List, _++_}
+use Rattle.recording.specs.Record.{recordBytes}
 use Rattle.listing.specs.Text.{ascii}
 use Rattle.listing.specs.Walk.{listingOf}
-
--- a record: the mark, the time and the symbol, low byte first
-abbrev recordBytes : ℕ → ℕ → List ℕ
-recordBytes time symbol =
-    0x53 ∷ 0x54
-    ∷ (time % 256) ∷ (time / 256 % 256) ∷ (time / 65536 % 256) ∷ (time / 16777216)
-    ∷ (symbol % 256) ∷ (symbol / 256) ∷ []
 
 abbrev pub tenSymbols : List ℕ
 tenSymbols =

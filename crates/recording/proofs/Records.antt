@@ -10,12 +10,12 @@ use lib.Dec.{leb, eqb}
 use lib.ListN.{length, getD, drop, length-append, length-drop, List·getD-append}
 use lib.Seq.{getD-drop}
 use Rattle.datagram.specs.declared.Refusal.{Refusal}
-use Rattle.datagram.specs.Refusals.{symbolAboveAt, noMark}
+use Rattle.datagram.specs.Refusals.{symbolAboveAt, noMark, cutShort}
 use Rattle.recording.specs.declared.Record.{Record}
 use Rattle.recording.specs.declared.Record.the-variants as record-case
 use Rattle.recording.specs.Record.{recordOf, judgedRecord, byteOf, timeAt, symbolAt}
 
-whole-record : (s : List ℕ) (at : ℕ) → at + 8 ≤ length s
+pub whole-record : (s : List ℕ) (at : ℕ) → at + 8 ≤ length s
     → recordOf s at ≡ judgedRecord at (getD s at 0) (byteOf s at 1) (timeAt s at) (symbolAt s at)
 unfolding recordOf
 whole-record s at h =
@@ -34,6 +34,17 @@ no-end s at h e =
     let low = leb (symbolAt s at) 511 in
     let z = not-the-end at (timeAt s at) (symbolAt s at) marked low (rw (whole-record s at h) at e) in
     omega arith
+
+-- the end stands where the bytes end
+pub at-end : (s : List ℕ) (at : ℕ) → recordOf s at ≡ record-case.End → length s ≡ at
+unfolding recordOf
+at-end s at e = go (leb at (length s)) (eqb (length s) at) (leb 8 (length s - at)) refl refl refl
+  where
+    go : (t u v : Bool) → leb at (length s) ≡ t → eqb (length s) at ≡ u → leb 8 (length s - at) ≡ v → length s ≡ at
+    go true true v a b c = eqb-true (length s) at b
+    go true false true a b c = absurd (no-end s at (let l = leb-true 8 (length s - at) c in omega arith) e)
+    go true false false a b c = let z : _≡_ {A = Record} (record-case.Refused (cutShort at)) record-case.End = rw (a, b, c) at e in let n : _≡_ {A = ℕ} 0 1 = cc in absurd (omega arith)
+    go false u v a b c = let z : _≡_ {A = Record} (record-case.Refused (cutShort at)) record-case.End = rw a at e in let n : _≡_ {A = ℕ} 0 1 = cc in absurd (omega arith)
 
 pub with-more : (xs ys : List ℕ) (at : ℕ) → at + 8 ≤ length xs → recordOf (xs ++ ys) at ≡ recordOf xs at
 with-more xs ys at h =

@@ -1,13 +1,17 @@
 -- A record is the mark 53 54, the time as 32 bits and the symbol as 16 bits, low byte first (rules 9).
 use Prim.Native.Nat.{ℕ, _+_, _-_}
 use mathlib.Core.Bool.{_&&_, cond}
-use mathlib.Core.List.{List}
+use mathlib.Core.List.{List, [], _∷_, _++_}
 use lib.Dec.{leb, eqb}
 use lib.ListN.{length, getD}
 use Rattle.datagram.specs.Refusals.{noMark, cutShort, symbolAboveAt}
-use Rattle.number.specs.Word.{word, long}
+use Rattle.number.specs.Word.{word, long, longBytes, lowByte, highByte}
 use Rattle.recording.specs.declared.Record.{Record}
 use Rattle.recording.specs.declared.Record.the-variants.{Heard, End, Refused}
+
+-- the eight bytes of a record
+abbrev pub recordBytes : ℕ → ℕ → List ℕ
+recordBytes time symbol = 0x53 ∷ 0x54 ∷ (longBytes time ++ (lowByte symbol ∷ highByte symbol ∷ []))
 
 -- byte i of the record at an offset
 abbrev pub byteOf : List ℕ → ℕ → ℕ → ℕ

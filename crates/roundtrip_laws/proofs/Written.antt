@@ -11,8 +11,9 @@ use Rattle.message.specs.declared.Verdict.the-variants as verdict
 use Rattle.message.specs.declared.Verdict.the-variants.{InRange}
 use Rattle.message.specs.Range.{rangeOf}
 use Rattle.message.specs.Spelling.{bytesOf, symbolsOf}
-use Rattle.writer.specs.declared.Written.the-variants.{Wrote}
-use Rattle.writer.specs.Writing.{outcome, writeOf, ruledWrite}
+use Rattle.datagram.specs.declared.Written.the-variants.{Wrote}
+use Rattle.datagram.specs.Position.{outcome}
+use Rattle.writer.specs.Writing.{writeOf, ruledWrite}
 
 pub written : (m : Message) (buffer : List ℕ) (at : ℕ) → rangeOf m ≡ InRange → at + length (bytesOf m) ≤ length buffer
     → writeOf m buffer at ≡ outcome (Wrote (length (bytesOf m))) (take at buffer ++ (symbolsOf m ++ drop (at + length (bytesOf m)) buffer))

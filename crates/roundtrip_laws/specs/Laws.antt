@@ -16,8 +16,9 @@ use Rattle.message.specs.Range.{rangeOf}
 use Rattle.message.specs.Spelling.{bytesOf, symbolsOf}
 use Rattle.message.specs.Reading.{byte, readOf}
 use Rattle.roundtrip_laws.specs.Ignored.{ignored, asWritten, agreeOutside}
-use Rattle.writer.specs.declared.Written.the-variants.{Wrote}
-use Rattle.writer.specs.Writing.{outcome, writeOf}
+use Rattle.datagram.specs.declared.Written.the-variants.{Wrote}
+use Rattle.datagram.specs.Position.{outcome}
+use Rattle.writer.specs.Writing.{writeOf}
 
 pub record RoundTrip : Type 0 where
   -- given room, a message in range is written: its symbols from the position on, every other number as it was

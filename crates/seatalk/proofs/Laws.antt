@@ -2,9 +2,7 @@
 use mathlib.Core.Path.{_≡_, refl, ap, ap₂, _∙_}
 use mathlib.Core.Bool.{Bool, true, false}
 use mathlib.Core.List.{List, [], _∷_}
-use Prim.Native.Nat.{ℕ, _+_, _*_, _/_, _%_, _<_}
-use native.Mathlib.Nat.{div-div-eq-div-mul}
-use native.Mathlib.Omega.{arith}
+use Prim.Native.Nat.{ℕ, _*_}
 use borrow.Author.Tests.{eq-eqb}
 use lib.Dec.{eqb, leb}
 use lib.IntN.{ℤ}
@@ -12,7 +10,8 @@ use lib.ListN.{length}
 use mir.Syntax.{w32}
 use mir.Val.{toZ, ofZ}
 use mir.ValLaws.{toZ-ofZ, ofZ-fits}
-use Rattle.number.specs.Word.{long, num}
+use Rattle.number.specs.Word.{num}
+use Rattle.number.proofs.Longs.{together}
 use Rattle.message.specs.declared.Lookup.{Lookup}
 use Rattle.message.specs.declared.Message.{Message}
 use Rattle.message.specs.declared.Message.the-variants.{Depth, WindAngle, WindSpeed, Speed, Trip, Total, Logs, Speeds, Water, Lamp, Latitude, Longitude, Ground, Course, Time, Date, Key, Heading, Variation, Turn}
@@ -28,19 +27,6 @@ use Rattle.from_fields.specs.Naming.{countOf, flagsOf, messageOf, badFlag, name
 use Rattle.from_fields.proofs.Each.{each-length}
 use Rattle.roundtrip_laws.proofs.Rows.{finds}
 use Rattle.seatalk.proofs.Fits.{fields-fit}
-
--- a number's low byte and the rest of it
-parts : (n : ℕ) → n % 256 + 256 * (n / 256) ≡ n
-parts n = omega arith
-
--- four bytes say the number that was laid out in them
-together : (n : ℕ) → n < 4294967296 → long (n % 256) (n / 256 % 256) (n / 65536 % 256) (n / 16777216 % 256) ≡ n
-together n h =
-    let first = parts n in
-    let second : n / 256 % 256 + 256 * (n / 65536) ≡ n / 256 = rw (div-div-eq-div-mul n 256 256) at (parts (n / 256)) in
-    let third : n / 65536 % 256 + 256 * (n / 16777216) ≡ n / 65536 = rw (div-div-eq-div-mul n 65536 256) at (parts (n / 65536)) in
-    let last : n / 16777216 % 256 ≡ n / 16777216 = omega arith in
-    omega arith
 
 numbers-back : (zs : List ℤ) → AllFit zs → numbersOf (fieldsBytes zs) ≡ zs
 numbers-back [] fits = refl

@@ -3,3 +3,4 @@ pub mod Fits
 pub mod Spelled
 pub mod Laws
 pub mod Kept
+pub mod Recorded

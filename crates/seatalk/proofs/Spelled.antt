@@ -12,8 +12,9 @@ use Rattle.message.specs.declared.Verdict.{Verdict}
 use Rattle.message.specs.declared.Verdict.the-variants as verdict
 use Rattle.message.specs.Range.{rangeOf}
 use Rattle.message.specs.Spelling.{bytesOf, symbolsOf}
-use Rattle.writer.specs.declared.Written.the-variants.{Wrote, Refused}
-use Rattle.writer.specs.Writing.{Outcome, outcome, writeOf}
+use Rattle.datagram.specs.declared.Written.the-variants.{Wrote, Refused}
+use Rattle.datagram.specs.Position.{Outcome, outcome}
+use Rattle.writer.specs.Writing.{writeOf}
 use Rattle.roundtrip_laws.proofs.RoundTrip.{round-trip}
 use Rattle.from_fields.proofs.Each.{each-length}
 use Rattle.seatalk.specs.Returned.{returned, codeOf}

@@ -1,6 +1,7 @@
-// The C boundary: listener, reader and writer on plain numbers and byte slices.
+// The C boundary: listener, reader, writer and recording writer on plain numbers and byte slices.
 mod hear;
 mod read;
+mod record;
 mod write;
 
 use datagram::Refusal;
@@ -8,10 +9,11 @@ ghost use mathlib.Core.Path.{_≡_};
 ghost use Prim.Native.Nat.{_+_, _≤_};
 ghost use lib.ListN.{length};
 ghost use lib.Seq.{paste, sets};
-ghost use Rattle.from_fields.specs.Numbers.{wordBytes};
+ghost use Rattle.number.specs.Word.{longBytes};
 ghost use Rattle.seatalk.specs.Returned.{returned, codeOf};
 ghost use Rattle.seatalk.specs.Hear as heard;
 ghost use Rattle.seatalk.specs.Read.{readCall};
+ghost use Rattle.seatalk.specs.Record.{recordCall};
 ghost use Rattle.seatalk.specs.Write.{writeCall};
 
 // One symbol heard: the state and 20 bytes of result; refusal 1, 2 or 8.
@@ -38,6 +40,14 @@ pub extern "C" fn seatalk_write(command: u32, fields: &[u8], result: &mut [u8]) 
     write::write(command, fields, result)
 }
 
+// A record's eight bytes from a time and a symbol; refusal 1 or 8.
+#[no_mangle]
+pub extern "C" fn seatalk_record(time: u32, symbol: u32, result: &mut [u8]) -> i32
+    ensures { λ r. ⌜ returned r (now (result .exit)) ≡ recordCall time symbol (now (result .entry)) ⌝ }
+{
+    record::record(time, symbol, result)
+}
+
 // Minus the number and 256 times the place.
 fn code_of(r: Refusal) -> i32
     ensures { λ c. ⌜ c ≡ codeOf r ⌝ }
@@ -55,9 +65,9 @@ fn put(lent: &mut [u8], at: usize, bytes: &[u8])
 }
 
 // Puts the four bytes of 32 bits from a position on, low byte first.
-fn put_word(lent: &mut [u8], at: usize, n: u32)
+fn put_long(lent: &mut [u8], at: usize, n: u32)
     requires { ⌜ at + 4 ≤ length (now lent) ⌝ }
-    ensures { λ _. ⌜ now (lent .exit) ≡ sets (now (lent .entry)) at (wordBytes n) ⌝ }
+    ensures { λ _. ⌜ now (lent .exit) ≡ sets (now (lent .entry)) at (longBytes n) ⌝ }
 {
     lent[at] = (n % 256) as u8;
     lent[at + 1] = (n / 256 % 256) as u8;

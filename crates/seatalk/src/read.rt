@@ -1,6 +1,6 @@
 // Any bytes read as the fields of a message.
 use crate::code_of;
-use crate::put_word;
+use crate::put_long;
 use datagram::refusals::NO_ROOM;
 use message::Message;
 use message::Reading;
@@ -24,7 +24,7 @@ fn store(f: Fields, result: &mut [u8])
     let n = f.count as usize;
     let mut i = 0;
     while i < n {
-        put_word(result, 4 * i, number::bits_of(f.values[i] as i32));
+        put_long(result, 4 * i, number::bits_of(f.values[i] as i32));
         i += 1;
     }
 }

@@ -1,9 +1,9 @@
 // A command and its fields written as the symbols of a message.
 use crate::code_of;
+use datagram::Written;
 use datagram::refusals::NO_ROOM;
 use from_fields::Naming;
 use message::Message;
-use writer::Written;
 ghost use mathlib.Core.Path.{_≡_};
 ghost use mathlib.Core.List.{_++_};
 ghost use Prim.Native.Nat.{_*_, _/_, _≤_};

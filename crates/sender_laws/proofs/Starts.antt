@@ -1,15 +1,16 @@
 -- Command symbols are sent at most as often as attempts are left: a start sends one and leaves one attempt fewer, no other move leaves more,
 -- and what follows the first byte is below 256.
-use Prim.Native.Nat.{ℕ, zero, suc, _≤_, _<_}
+use Prim.Native.Nat.{ℕ, suc, _≤_, _<_}
 use native.Mathlib.Numerals.{add-one}
 use native.Mathlib.Omega.{arith}
 use mathlib.Core.Path.{_≡_}
 use mathlib.Core.Bool.{true, and-eq-true-iff}
 use mathlib.Core.List.{List, [], _∷_}
-use borrow.Author.Tests.{ltb-true, lt-leb}
+use borrow.Author.Tests.{lt-leb}
 use lib.Dec.{leb, ltb}
 use lib.ListN.{getD}
 use Rattle.datagram.specs.Whole.{symbols, allBytes}
+use Rattle.datagram.proofs.Whole.{below-at}
 use Rattle.sender.specs.declared.Sender.{Sender}
 use Rattle.sender.specs.declared.Outcome.{Outcome}
 use Rattle.sender.specs.State.{bytesOf, symbolAt}
@@ -19,15 +20,10 @@ use Rattle.sender_laws.proofs.Sound.{waiting-left}
 use Rattle.sender_laws.proofs.Moves.{Move, stays, starts, goes-on, finishes, waits-again, gives-up, move}
 use Rattle.sender_laws.proofs.Kept.{move-datagram}
 
-byte-at : (bytes : List ℕ) (i : ℕ) → allBytes bytes ≡ true → getD bytes i 0 < 256
-byte-at [] i b = omega arith
-byte-at (x ∷ xs) zero b = ltb-true x 256 (and-eq-true-iff (ltb x 256) (allBytes xs) .0 b .0)
-byte-at (x ∷ xs) (suc i) b = byte-at xs i (and-eq-true-iff (ltb x 256) (allBytes xs) .0 b .1)
-
 -- past the first, a symbol carries no command bit
 data-symbol : (bytes : List ℕ) (i : ℕ) → allBytes bytes ≡ true → getD (symbols bytes) (suc i) 0 < 256
 data-symbol [] i b = omega arith
-data-symbol (x ∷ xs) i b = byte-at xs i (and-eq-true-iff (ltb x 256) (allBytes xs) .0 b .1)
+data-symbol (x ∷ xs) i b = below-at 256 xs i (omega arith) (and-eq-true-iff (ltb x 256) (allBytes xs) .0 b .1)
 
 move-starts : {s : Sender} {c : Call} {o : Outcome} → Move s c o → allBytes (bytesOf s) ≡ true → (later : List ℕ)
     → commands later ≤ startsLeft (o .sender .phase) (o .sender .failures) (o .sender .limit)

@@ -1,19 +1,20 @@
 // Each kind's writer: the bytes that spell its fields, stored as symbols in the lent part.
-use crate::Written;
 use crate::store::store3;
 use crate::store::store4;
 use crate::store::store5;
 use crate::store::store7;
 use angle::half_digits;
 use angle::whole_digits;
+use datagram::Written;
 use number::bits_of;
 use number::flag;
 ghost use mathlib.Core.Path.{_≡_};
 ghost use mathlib.Core.List.{[], _∷_};
 ghost use Prim.Native.Nat.{_+_, _*_, _/_, _%_};
 ghost use Rattle.number.specs.Word.{lowByte, num};
+ghost use Rattle.datagram.specs.Position.{outcome};
 ghost use Rattle.message.specs.Spelling.{depthBytes, windAngleBytes, windSpeedBytes, speedBytes, tripBytes, totalBytes, logsBytes, speedsBytes, waterBytes, lampBytes, latitudeBytes, longitudeBytes, groundBytes, courseBytes, timeBytes, dateBytes, keyBytes, headingBytes, variationBytes, turnBytes};
-ghost use Rattle.writer.specs.Writing.{outcome, storeOf};
+ghost use Rattle.writer.specs.Writing.{storeOf};
 
 pub fn depth(
     part: &mut [u16],

@@ -2,19 +2,14 @@
 mod kinds;
 mod store;
 
-use datagram::Refusal;
+use datagram::Written;
 use datagram::refusals::NO_ROOM;
 use message::Message;
 use message::Verdict;
 ghost use mathlib.Core.Path.{_≡_};
+ghost use Rattle.datagram.specs.Position.{outcome};
 ghost use Rattle.message.specs.Spelling.{bytesOf};
-ghost use Rattle.writer.specs.Writing.{outcome, storeOf, writeOf};
-
-// What writing a message answers: how many symbols it stored, or the refusal.
-pub enum Written {
-    Wrote(usize),
-    Refused(Refusal),
-}
+ghost use Rattle.writer.specs.Writing.{storeOf, writeOf};
 
 // Writes the message's symbols from the position `at`, or gives refusal 7 or 8, in that order. Nothing else is changed.
 pub fn write(m: Message, buf: &mut [u16], at: usize) -> Written

@@ -1,9 +1,10 @@
 // Storing a datagram of each length at the front of a lent part: all of its symbols, or none where there is no room.
-use crate::Written;
+use datagram::Written;
 use datagram::refusals::NO_ROOM;
 ghost use mathlib.Core.Path.{_≡_};
 ghost use mathlib.Core.List.{[], _∷_};
-ghost use Rattle.writer.specs.Writing.{outcome, storeOf};
+ghost use Rattle.datagram.specs.Position.{outcome};
+ghost use Rattle.writer.specs.Writing.{storeOf};
 
 pub fn store3(part: &mut [u16], a: u8, b: u8, c: u8) -> Written
     ensures { λ r. ⌜ outcome r (now (part .exit)) ≡ storeOf (a ∷ b ∷ c ∷ []) (now (part .entry)) ⌝ }

@@ -5,15 +5,19 @@ use Prim.Native.Nat.{ℕ}
 use mathlib.Core.Path.{_≡_, _∙_, sym, ap}
 use mathlib.Core.List.{List}
 use denote.Ref.{now}
+use lib.ListN.{length}
 use Rattle.datagram.specs.declared.Refusal.{Refusal}
+use Rattle.datagram.specs.declared.Written.the-variants.{Refused}
+use Rattle.datagram.specs.Position.{outcome}
+use Rattle.datagram.specs.Whole.{symbols}
+use Rattle.datagram.proofs.Lent.{home}
+use Rattle.datagram.proofs.Whole.{as-many}
 use Rattle.message.specs.declared.Message.{Message}
 use Rattle.message.specs.declared.Verdict.{Verdict}
 use Rattle.message.specs.declared.Verdict.the-variants as verdict
 use Rattle.message.specs.Range.{rangeOf}
 use Rattle.message.specs.Spelling.{bytesOf}
-use Rattle.writer.specs.declared.Written.the-variants.{Refused}
-use Rattle.writer.specs.Writing.{outcome, writeOf, ruledWrite}
-use Rattle.writer.proofs.Stored.{home}
+use Rattle.writer.specs.Writing.{writeOf, ruledWrite}
 use Rattle.writer.proofs.write.Statement.{statement}
 use Rattle.writer.proofs.write.Tie as tie
 
@@ -31,7 +35,7 @@ returns-2 : tie.Need-returns-2
 unfolding writeOf
 returns-2 c =
     let a = c .before .before .before .before .before .before .before .before .before .args in
-    home (bytesOf (a .m)) (now (a .buf)) (a .at) (c .before .before .put .result) (c .before .before .put .last .1 .0) (c .before .before .before .before .if1 .taken) (c .before .before .put .ensures)
+    home (length (bytesOf (a .m))) (symbols (bytesOf (a .m))) (now (a .buf)) (a .at) (as-many (bytesOf (a .m))) (c .before .before .put .result) (c .before .before .put .last .1 .0) (c .before .before .before .before .if1 .taken) (c .before .before .put .ensures)
     ∙ sym (ap (λ (v : Verdict). ruledWrite v (bytesOf (a .m)) (now (a .buf)) (a .at)) (sym (c .before .before .before .before .before .before .before .range-of .ensures) ∙ c .before .before .before .before .before .enum-told .given .1))
 
 returns-3 : tie.Need-returns-3

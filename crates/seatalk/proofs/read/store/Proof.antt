@@ -48,8 +48,8 @@ cast-bits-of c =
     let h = fits (f .values) (f .count) (w .loop .i) (w .before .before .pre .1 .1) (omega arith) (omega arith) in
     rw (read-back (getD (f .values) (w .loop .i) (pos 0)) h) h
 
-put-word-requires : tie.Need-put-word-requires Inv-loop μ-loop
-put-word-requires c κs =
+put-long-requires : tie.Need-put-long-requires Inv-loop μ-loop
+put-long-requires c κs =
     let w = c .before .before .before .before in
     let a = w .before .before .args in
     let long : length (a .t1 .values) ≡ 12 = search needs in
@@ -66,7 +66,7 @@ loop-again c =
     let bits : c .before .before .before .bits-of .result ≡ ofZ w32 z = rw (read-back z h, toZ-ofZ w32 z h) at (c .before .before .before .bits-of .ensures) in (
       omega arith,
       rw (← one-more fieldBytes 4 (λ z. refl) (a .t1 .values) (w .loop .i) (a .result .now) (pos 0) (omega arith) (omega arith))
-          (rw (bits, w .loop .inv .1) at (c .before .before .put-word .ensures)),
+          (rw (bits, w .loop .inv .1) at (c .before .before .put-long .ensures)),
     )
 
 same-length : tie.Need-same-length Inv-loop μ-loop
@@ -86,5 +86,5 @@ pub store-spec : {M : Type 1} → statement M
 store-spec =
     tie.close
     (tie.spec Inv-loop μ-loop (λ c. search needs) loop-holds (λ c. search needs) (λ c. search needs) (λ c. search needs)
-    cast-bits-of (λ c κs. search needs) put-word-requires (λ c. search needs) (λ c. search needs) loop-again same-length
+    cast-bits-of (λ c κs. search needs) put-long-requires (λ c. search needs) (λ c. search needs) loop-again same-length
     returns)

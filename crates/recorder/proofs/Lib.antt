@@ -1,0 +1,4 @@
+pub mod Files
+pub mod Written
+pub mod Reread
+pub mod Laws

@@ -1,0 +1,3 @@
+pub mod Recording
+pub mod File
+pub mod Laws
