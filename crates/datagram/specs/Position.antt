@@ -18,12 +18,14 @@ pub record Outcome : Type 0 where
 abbrev pub outcome : Written → List ℕ → Outcome
 outcome answer buffer = record { answer = answer; buffer = buffer }
 
--- these n numbers from the position on, or refusal 8 where it is past the end or fewer numbers remain
+-- this outcome, or refusal 8 where the position is past the end or fewer than n numbers remain from it on
+abbrev pub givenRoom : ℕ → List ℕ → ℕ → Outcome → Outcome
+givenRoom n buffer at stored =
+    cond (leb at (length buffer) && leb n (length buffer - at)) stored (outcome (Refused noRoom) buffer)
+
+-- these n numbers from the position on
 abbrev pub storedAt : ℕ → List ℕ → List ℕ → ℕ → Outcome
-storedAt n xs buffer at =
-    cond (leb at (length buffer) && leb n (length buffer - at))
-    (outcome (Wrote n) (take at buffer ++ (xs ++ drop (at + n) buffer)))
-    (outcome (Refused noRoom) buffer)
+storedAt n xs buffer at = givenRoom n buffer at (outcome (Wrote n) (take at buffer ++ (xs ++ drop (at + n) buffer)))
 
 -- the same at the front of the lent part
 abbrev pub storedFront : ℕ → List ℕ → List ℕ → Outcome
