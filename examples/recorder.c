@@ -15,11 +15,14 @@ static const struct heard bus[] = {
 
 static uint8_t block[4 * SEATALK_RECORD_SIZE]; /* four records; a card's block of 512 bytes holds 64 */
 static size_t used;
+static int failed;
 
 static void store_block(void)
 {
-    if (fwrite(block, 1, used, stdout) != used)
-        fprintf(stderr, "the recording is not whole\n");
+    if (fwrite(block, 1, used, stdout) != used || fflush(stdout) != 0) {
+        fprintf(stderr, "the recording is not whole: a block could not be stored\n");
+        failed = 1;
+    }
     used = 0;
 }
 
@@ -48,5 +51,5 @@ int main(void)
     }
     store_block();
     fprintf(stderr, "heard %u datagrams\n", datagrams);
-    return 0;
+    return failed;
 }

@@ -53,7 +53,7 @@ badWaitOrLimit = refusal 9
 abbrev pub noMark : ℕ → Refusal
 noMark = refusalAt 10
 
--- the times and the symbols of a run of records are not as many
+-- the times and the symbols of a run of records differ in number
 abbrev pub differentLengths : Refusal
 differentLengths = refusal 11
 

@@ -67,7 +67,7 @@ pub fn no_mark(offset: usize) -> Refusal
     refusal_at(10, offset)
 }
 
-// The two lists of a run of records are not as long as each other.
+// The times and the symbols of a run of records differ in number.
 pub const DIFFERENT_LENGTHS: Refusal = Refusal {
     number: 11,
     place: 0,

@@ -58,8 +58,8 @@ fn all_symbols(symbols: &[u16]) -> bool
     true
 }
 
-// Stores the records at the front of the lent part: all, or none where there is no room. Records are counted and not bytes,
-// since 8 times a list's length need not fit 64 bits.
+// Stores the records at the front of the lent part: all, or none where there is no room. Room is counted in records, so that
+// 8 times their number is formed only where it is known to fit.
 fn put_records(times: &[u32], symbols: &[u16], part: &mut [u8]) -> Written
     requires { ⌜ length (now times) ≡ length (now symbols) ⌝ }
     ensures { λ r. ⌜ outcome r (now (part .exit)) ≡ storedFront (8 * length (now (times .entry))) (fileOf (now (times .entry)) (now (symbols .entry))) (now (part .entry)) ⌝ }
