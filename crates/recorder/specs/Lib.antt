@@ -1,3 +1,4 @@
 pub mod Recording
 pub mod File
 pub mod Laws
+pub mod Examples
