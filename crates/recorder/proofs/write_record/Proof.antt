@@ -1,7 +1,7 @@
 -- `write_record` judges the symbol and the room, and stores the record from the position on.
 use borrow.Author.Needs.{needs}
 use borrow.Author.Tests.{le-leb, lt-leb}
-use mathlib.Core.Path.{ap, _∙_}
+use mathlib.Core.Path.{refl, ap, _∙_}
 use mathlib.Core.List.{append-assoc}
 use Prim.Native.Nat.{_+_, _-_}
 use native.Mathlib.Omega.{arith}
@@ -16,20 +16,20 @@ use Rattle.recorder.proofs.write_record.Tie as tie
 
 returns : tie.Need-returns
 unfolding recordWritten
-returns c = let a = c .before .before .args in rw (lt-leb (a .symbol) 511 (omega arith))
+returns c = let a = c .before .before .args in rw (lt-leb (a .symbol) 511 (omega arith)) refl
 
 returns-2 : tie.Need-returns-2
 unfolding recordWritten
 returns-2 c =
     let a = c .before .before .before .args in
-    rw (le-leb (a .symbol) 511 (omega arith), lt-leb (a .at) (length (a .buf .now)) (omega arith))
+    rw (le-leb (a .symbol) 511 (omega arith), lt-leb (a .at) (length (a .buf .now)) (omega arith)) refl
 
 returns-3 : tie.Need-returns-3
 unfolding recordWritten
 returns-3 c =
     let a = c .before .before .before .before .args in
     let room = length (a .buf .now) in
-    rw (le-leb (a .symbol) 511 (omega arith), le-leb (a .at) room (omega arith), lt-leb 8 (room - a .at) (omega arith))
+    rw (le-leb (a .symbol) 511 (omega arith), le-leb (a .at) room (omega arith), lt-leb 8 (room - a .at) (omega arith)) refl
 
 returns-4 : tie.Need-returns-4
 unfolding recordWritten

@@ -1,7 +1,7 @@
 -- `record` refuses the symbol, and else returns what the recording writer did at the front of the result.
 use borrow.Author.Needs.{needs}
 use borrow.Author.Tests.{lt-ltb}
-use mathlib.Core.Path.{ap, _∙_}
+use mathlib.Core.Path.{refl, ap, _∙_}
 use native.Mathlib.Omega.{arith}
 use mir.Syntax.{w32}
 use mir.ValLaws.{toZ-pos}
@@ -15,7 +15,7 @@ returns : tie.Need-returns
 unfolding recordCall
 returns c =
     let a = c .before .before .before .args in
-    rw (handed w32 (c .code-of .ok) (c .code-of .ensures), lt-ltb 511 (a .symbol) (c .before .if1 .taken))
+    rw (handed w32 (c .code-of .ok) (c .code-of .ensures), lt-ltb 511 (a .symbol) (c .before .if1 .taken)) refl
 
 cast-result : tie.Need-cast-result
 cast-result c =
