@@ -10,6 +10,7 @@ use lib.Seq.{sets}
 use Rattle.recorder.proofs.put_record.Statement.{statement}
 use Rattle.recorder.proofs.put_record.Tie as tie
 
+-- eight stores, as the code makes them, are the list stored at once
 eight : (l : List ℕ) (at a b c d e f g h : ℕ)
     → set (set (set (set (set (set (set (set l at a) (at + 1) b) (at + 2) c) (at + 3) d) (at + 4) e) (at + 5) f) (at + 6) g) (at + 7) h
     ≡ sets l at (a ∷ b ∷ c ∷ d ∷ e ∷ f ∷ g ∷ h ∷ [])
