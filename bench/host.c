@@ -21,7 +21,7 @@ struct message {
 struct kind {
     uint32_t command;
     size_t count;
-    int32_t low[6], high[6];
+    int32_t low[11], high[11];
 };
 
 static const struct kind kinds[] = {
@@ -41,6 +41,7 @@ static const struct kind kinds[] = {
     {0x53, 1, {0}, {719}},
     {0x54, 3, {0}, {23, 59, 59}},
     {0x56, 3, {1, 1, 0}, {12, 31, 99}},
+    {0x84, 11, {[8] = -128}, {359, 1, 719, 1, 1, 1, 1, 1, 127, 255, 255}},
     {0x86, 2, {0}, {15, 255}},
     {0x89, 3, {0}, {719, 719, 1}},
     {0x99, 1, {-127}, {128}},
@@ -163,7 +164,7 @@ static void same(const char *what, int32_t a, int32_t b, const uint8_t *bytes, c
 
 static void compare(void)
 {
-    uint8_t state[2][SEATALK_STATE_SIZE] = {{0}}, result[2][32] = {{0}};
+    uint8_t state[2][SEATALK_STATE_SIZE] = {{0}}, result[2][SEATALK_FIELDS_SIZE] = {{0}};
     size_t handed = 0, refused = 0;
     for (size_t i = 0; i < SYMBOLS; i++) {
         int32_t a = seatalk_hear(state[0], sizeof state[0], symbols[i], result[0], sizeof result[0]);

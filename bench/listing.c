@@ -153,6 +153,13 @@ static inline uint32_t word(const unsigned char *d) { return d[0] | (uint32_t)d[
 
 static inline int signed_byte(unsigned b) { return (int)(b ^ 0x80) - 0x80; }
 
+/* The angle of 84 and 9C. The highest sum, of U = F and six = 44, is 360. */
+static inline uint32_t whole_degrees(unsigned u, unsigned six)
+{
+    unsigned degrees = 90 * (u & 3) + 2 * six + (u >> 3) + (u >> 2 & 1);
+    return degrees == 360 ? 0 : degrees;
+}
+
 #define NAME(text) (memcpy(o, text, sizeof text - 1), o += sizeof text - 1)
 #define WANT(digit) if (low != (digit)) return refused(o, 5)
 #define RANGE(held) if (!(held)) return refused(o, 7)
@@ -258,6 +265,22 @@ static inline char *put_reading(char *o, const unsigned char *d)
         o = field(o, high);
         o = field(o, d[2]);
         return field(o, d[3]);
+    case 0x84:
+        WANT(6);
+        six = d[2] & 0x3F;
+        RANGE(six <= 44 && d[3] <= 179);
+        NAME("pilot");
+        o = field(o, whole_degrees(high, six));
+        o = flag(o, high & 8);
+        o = field(o, 180u * (d[2] >> 6) + d[3]);
+        o = flag(o, d[4] & 2);
+        o = flag(o, d[4] & 4);
+        o = flag(o, d[4] & 8);
+        o = flag(o, d[5] & 4);
+        o = flag(o, d[5] & 8);
+        o = field_signed(o, signed_byte(d[6]));
+        o = field(o, d[7]);
+        return field(o, d[8]);
     case 0x86:
         WANT(1);
         if (d[2] + d[3] != 255)
@@ -277,16 +300,14 @@ static inline char *put_reading(char *o, const unsigned char *d)
         WANT(0);
         NAME("variation");
         return field_signed(o, -signed_byte(d[2]));
-    case 0x9C: {
+    case 0x9C:
         WANT(1);
         six = d[2] & 0x3F;
         RANGE(six <= 44);
         NAME("turn");
-        unsigned degrees = 90 * (high & 3) + 2 * six + (high >> 3) + (high >> 2 & 1);
-        o = field(o, degrees == 360 ? 0 : degrees);
+        o = field(o, whole_degrees(high, six));
         o = flag(o, high & 8);
         return field_signed(o, signed_byte(d[3]));
-    }
     default:
         return refused(o, 4);
     }

@@ -15,12 +15,13 @@ struct datagram {
 /* The boat, in the units of the bus. */
 static struct {
     int depth, wind_angle, wind_speed, speed, average, trip, total, water, lamp, ground, course, heading, rudder;
-    int turning, lat, lon, variation;
+    int turning, lat, lon, variation, pilot_course, pilot_modes;
     long seconds;
 } boat = {
     .depth = 312, .wind_angle = 84, .wind_speed = 143, .speed = 612, .average = 598, .trip = 1204, .total = 48211,
     .water = 268, .lamp = 1, .ground = 63, .course = 582, .heading = 291, .rudder = -2, .turning = 1,
-    .lat = 59 * 6000 + 2210, .lon = 10 * 6000 + 4415, .variation = 3, .seconds = 9 * 3600,
+    .lat = 59 * 6000 + 2210, .lon = 10 * 6000 + 4415, .variation = 3,
+    .pilot_course = 582, .pilot_modes = 2, .seconds = 9 * 3600,
 };
 
 static uint64_t seed;
@@ -94,10 +95,20 @@ static struct datagram spell(int command, int high, unsigned count, const int *r
 static int angle_u(int half) { return half / 180 | half % 4 << 2; }
 static int angle_six(int half) { return half % 180 / 4; }
 
+/* U and six bits of a whole-degree angle. The two high bits of U count one degree each, and the higher one is set where the
+   boat turns right: an odd degree sets one of them, an even one none or, from two degrees less, both. */
+static int spelled_from(int degrees, int right) { return degrees % 2 == 0 && right ? (degrees + 358) % 360 : degrees; }
+static int turn_u(int degrees, int right)
+{
+    int high = degrees % 2 == 0 ? 3 * right : 1 + right;
+    return spelled_from(degrees, right) / 90 | high << 2;
+}
+static int turn_six(int degrees, int right) { return spelled_from(degrees, right) % 90 / 2; }
+
 /* What the instrument with this command says now. */
 static struct datagram say(int command)
 {
-    int second, u, six;
+    int second;
     switch (command) {
     case 0x00:
         wander(&boat.depth, 6, 12, 3000);
@@ -147,6 +158,17 @@ static struct datagram say(int command)
                      (int)(boat.seconds / 3600 % 24));
     case 0x56:
         return SPELL(0x56, 7, 1 + (int)(boat.seconds / 86400 % 31), 24);
+    case 0x84: {
+        static const int modes[] = {0, 2, 6, 10}; /* standby, auto, vane, track */
+        swing(&boat.heading, 2, 360);
+        if (chance(40))
+            swing(&boat.pilot_course, 20, 720);
+        if (chance(100))
+            boat.pilot_modes = modes[draw(4)];
+        return SPELL(0x84, turn_u(boat.heading, boat.turning),
+                     boat.pilot_course / 180 << 6 | turn_six(boat.heading, boat.turning), boat.pilot_course % 180,
+                     boat.pilot_modes, chance(50) ? (int)draw(4) << 2 : 0, boat.rudder & 255, 2, 8);
+    }
     case 0x86: {
         static const int keys[] = {0x05, 0x06, 0x07, 0x08, 0x01, 0x02, 0x44, 0x45};
         int key = keys[draw(8)];
@@ -164,20 +186,8 @@ static struct datagram say(int command)
         swing(&boat.heading, 3, 360);
         wander(&boat.rudder, 2, -30, 30);
         boat.turning ^= chance(8);
-        /* 2*six + ones: one high bit is 1 degree; both, turning right, or none, turning left, the even degree. */
-        u = boat.heading / 90;
-        six = boat.heading % 90 / 2;
-        if (boat.heading % 2)
-            return SPELL(0x9C, u | (boat.turning ? 8 : 4), six, boat.rudder & 255);
-        if (!boat.turning)
-            return SPELL(0x9C, u, six, boat.rudder & 255);
-        u = (boat.heading + 358) % 360 / 90;
-        six = (boat.heading + 358) % 360 % 90 / 2;
-        return SPELL(0x9C, u | 12, six, boat.rudder & 255);
-    /* Commands that the table does not have: pilot, satellites, waypoint, trip reset. */
-    case 0x84:
-        swing(&boat.heading, 2, 360);
-        return SPELL(0x84, boat.heading / 90 | 8, boat.heading % 90 / 2, 112, 2, 0, boat.rudder & 255, 0, 8);
+        return SPELL(0x9C, turn_u(boat.heading, boat.turning), turn_six(boat.heading, boat.turning), boat.rudder & 255);
+    /* Commands that the table does not have: satellites, waypoint, trip reset. */
     case 0xA5:
         return SPELL(0xA5, 5, 0x14, 0x10 + (int)draw(8), (int)draw(256), (int)draw(256), (int)draw(256), 0, 0, 0);
     case 0x82:
@@ -190,8 +200,8 @@ static struct datagram say(int command)
 /* Sendings in ten seconds. */
 static const struct { int command, often; } instruments[] = {
     {0x00, 30}, {0x10, 30}, {0x11, 30}, {0x20, 20}, {0x21, 5}, {0x22, 5}, {0x25, 10}, {0x26, 20}, {0x27, 5},
-    {0x30, 1}, {0x50, 20}, {0x51, 20}, {0x52, 20}, {0x53, 20}, {0x54, 10}, {0x56, 2}, {0x86, 2}, {0x89, 20},
-    {0x99, 5}, {0x9C, 100}, {0x84, 30}, {0xA5, 4}, {0x82, 2}, {0x68, 1},
+    {0x30, 1}, {0x50, 20}, {0x51, 20}, {0x52, 20}, {0x53, 20}, {0x54, 10}, {0x56, 2}, {0x84, 30}, {0x86, 2},
+    {0x89, 20}, {0x99, 5}, {0x9C, 100}, {0xA5, 4}, {0x82, 2}, {0x68, 1},
 };
 enum { INSTRUMENTS = sizeof instruments / sizeof instruments[0] };
 

@@ -68,6 +68,13 @@ static inline uint32_t word(const uint8_t *d) { return d[0] | (uint32_t)d[1] << 
 
 static inline int32_t signed_byte(unsigned b) { return (int32_t)(b ^ 0x80) - 0x80; }
 
+/* The angle of 84 and 9C. The highest sum, of U = F and six = 44, is 360. */
+static inline int32_t whole_degrees(unsigned u, unsigned six)
+{
+    unsigned degrees = 90 * (u & 3) + 2 * six + (u >> 3) + (u >> 2 & 1);
+    return degrees == 360 ? 0 : (int32_t)degrees;
+}
+
 static inline void put(uint8_t *result, unsigned i, int32_t value)
 {
     uint32_t bits = (uint32_t)value;
@@ -194,6 +201,23 @@ int32_t plain_read(const uint8_t *d, size_t length, uint8_t *result, size_t resu
         put(result, 1, d[2]);
         put(result, 2, d[3]);
         return 12;
+    case 0x84:
+        DECLARES(6);
+        six = d[2] & 0x3F;
+        RANGE(six <= 44 && d[3] <= 179);
+        ROOM(44);
+        put(result, 0, whole_degrees(high, six));
+        put_flag(result, 1, high & 8);
+        put(result, 2, (int32_t)(180u * (d[2] >> 6) + d[3]));
+        put_flag(result, 3, d[4] & 2);
+        put_flag(result, 4, d[4] & 4);
+        put_flag(result, 5, d[4] & 8);
+        put_flag(result, 6, d[5] & 4);
+        put_flag(result, 7, d[5] & 8);
+        put(result, 8, signed_byte(d[6]));
+        put(result, 9, d[7]);
+        put(result, 10, d[8]);
+        return 44;
     case 0x86:
         DECLARES(1);
         if (d[2] + d[3] != 255)
@@ -216,17 +240,15 @@ int32_t plain_read(const uint8_t *d, size_t length, uint8_t *result, size_t resu
         ROOM(4);
         put(result, 0, -signed_byte(d[2]));
         return 4;
-    case 0x9C: {
+    case 0x9C:
         DECLARES(1);
         six = d[2] & 0x3F;
         RANGE(six <= 44);
         ROOM(12);
-        unsigned degrees = 90 * (high & 3) + 2 * six + (high >> 3) + (high >> 2 & 1);
-        put(result, 0, (int32_t)(degrees == 360 ? 0 : degrees));
+        put(result, 0, whole_degrees(high, six));
         put_flag(result, 1, high & 8);
         put(result, 2, signed_byte(d[3]));
         return 12;
-    }
     default:
         return -4;
     }
@@ -254,6 +276,17 @@ static inline void open(uint8_t *result, uint32_t command, unsigned second)
     result[1] = 1;
     symbol(result, 1, second);
 }
+
+/* What the angle of 84 and 9C is spelled from. Turning right sets the high bit of U, which counts one: the rest is then the
+   degree before, for degree 0 that is 359, the end of the last quarter. */
+static inline uint32_t degree_before(uint32_t degrees, uint32_t right)
+{
+    return !right ? degrees : degrees ? degrees - 1 : 359;
+}
+
+static inline unsigned whole_u(uint32_t before, uint32_t right) { return right << 3 | (before & 1) << 2 | before / 90; }
+
+static inline unsigned whole_six(uint32_t before) { return before % 90 >> 1; }
 
 int32_t plain_write(uint32_t command, const uint8_t *fields, size_t fields_length, uint8_t *result,
                     size_t result_length)
@@ -396,6 +429,27 @@ int32_t plain_write(uint32_t command, const uint8_t *fields, size_t fields_lengt
         symbol(result, 2, b);
         symbol(result, 3, c);
         return 8;
+    case 0x84: {
+        FIELDS(11);
+        a = get(fields, 0);
+        b = get(fields, 1);
+        c = get(fields, 2);
+        uint32_t automatic = get(fields, 3), vane = get(fields, 4), track = get(fields, 5);
+        uint32_t off_course = get(fields, 6), wind_shift = get(fields, 7);
+        uint32_t rudder = get(fields, 8), ss = get(fields, 9), tt = get(fields, 10);
+        RANGE(a <= 359 && c <= 719 && (b | automatic | vane | track | off_course | wind_shift) <= 1);
+        RANGE(rudder + 128 <= 255 && (ss | tt) <= 255);
+        a = degree_before(a, b);
+        SYMBOLS(9, whole_u(a, b) << 4 | 0x06);
+        symbol(result, 2, c / 180 << 6 | whole_six(a));
+        symbol(result, 3, c % 180);
+        symbol(result, 4, track << 3 | vane << 2 | automatic << 1);
+        symbol(result, 5, wind_shift << 3 | off_course << 2);
+        symbol(result, 6, rudder);
+        symbol(result, 7, ss);
+        symbol(result, 8, tt);
+        return 18;
+    }
     case 0x86:
         FIELDS(2);
         a = get(fields, 0);
@@ -423,21 +477,17 @@ int32_t plain_write(uint32_t command, const uint8_t *fields, size_t fields_lengt
         SYMBOLS(3, 0x00);
         symbol(result, 2, 0u - a);
         return 6;
-    case 0x9C: {
+    case 0x9C:
         FIELDS(3);
         a = get(fields, 0);
         b = get(fields, 1);
         c = get(fields, 2);
         RANGE(a <= 359 && b <= 1 && c + 128 <= 255);
-        ROOM(8);
-        /* Turning right sets the high bit, which counts one: the rest is spelled from the degree before, with an odd
-           rest in the other bit. Degree 0 is then spelled from 359, the end of the last quarter. */
-        uint32_t rest = b ? (a ? a - 1 : 359) : a;
-        open(result, command, (b << 3 | (rest & 1) << 2 | rest / 90) << 4 | 0x01);
-        symbol(result, 2, rest % 90 >> 1);
+        a = degree_before(a, b);
+        SYMBOLS(4, whole_u(a, b) << 4 | 0x01);
+        symbol(result, 2, whole_six(a));
         symbol(result, 3, c);
         return 8;
-    }
     default:
         return -4;
     }

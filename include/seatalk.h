@@ -47,8 +47,8 @@ extern "C" {
 #define SEATALK_STATE_SIZE 18      /* a listener state */
 #define SEATALK_HEARD_SIZE 20      /* the result of seatalk_hear */
 #define SEATALK_DATAGRAM_SIZE 18   /* at most, a datagram */
-#define SEATALK_FIELDS_SIZE 24     /* at most, the fields of a kind */
-#define SEATALK_SYMBOLS_SIZE 14    /* at most, the symbols of a kind */
+#define SEATALK_FIELDS_SIZE 44     /* at most, the fields of a kind */
+#define SEATALK_SYMBOLS_SIZE 18    /* at most, the symbols of a kind */
 #define SEATALK_RECORD_SIZE 8      /* a record of a recording */
 
 /* One symbol heard (rules 11.3).
@@ -116,6 +116,8 @@ int32_t seatalk_record(uint32_t time, uint32_t symbol, uint8_t *result, size_t r
  *   53 3  course: half degrees 0..719
  *   54 4  time: hours 0..23; minutes 0..59; seconds 0..59
  *   56 4  date: month 1..12; day 1..31; year 0..99
+ *   84 9  pilot: heading in degrees 0..359; flag turning right; the pilot's course, half degrees 0..719; flags auto, vane,
+ *         track, off course, wind shift; rudder, degrees -128..127; SS 0..255; TT 0..255
  *   86 4  key: source 0..15; code 0..255
  *   89 5  heading: half degrees 0..719; reference, half degrees 0..719; flag locked
  *   99 3  variation: degrees, east positive, -127..128

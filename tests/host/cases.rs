@@ -1,7 +1,7 @@
 //! The calls that are compared, in sections.
 
 use crate::compare::{Compared, Comparison, ROOM};
-use crate::second::{Field, Kind, HEARD, KINDS, LONGEST, RECORD, STATE};
+use crate::second::{kind_of, Field, Kind, HEARD, KINDS, LONGEST, MOST_FIELDS, RECORD, STATE};
 
 /// How many of the calls are made: one in so many of the large sections and of the sections of limits, and how many
 /// symbols of a random bus.
@@ -86,6 +86,16 @@ const TIMES: &[u32] =
     &[0, 1, 255, 256, 65535, 65536, 0x00FF_FFFF, 0x0100_0000, 0x1234_5678, 0x7FFF_FFFF, 0x8000_0000, 0xFFFF_FFFF];
 
 const EMPTY: [u8; STATE] = [0; STATE];
+
+/// Room for the fields of any kind.
+const FIELDS: usize = 4 * MOST_FIELDS;
+
+/// How many combinations of a kind's limits are made at most.
+const COMBINATIONS: u64 = 50_000;
+
+/// Every U, VW and XY of a pilot, and how many of them are read: six bits to 44, XY to 179.
+pub const SPELLINGS: u64 = 16 * 256 * 256;
+pub const SPELLINGS_READ: u64 = 16 * 4 * 45 * 180;
 
 fn laid_out(fields: &[i32]) -> Vec<u8> {
     fields.iter().flat_map(|field| field.to_le_bytes()).collect()
@@ -282,7 +292,7 @@ pub fn limits(c: &mut Comparison, effort: Effort, random: &mut Random) -> Compar
                         let mut message = random.message(kind);
                         message[i] = edge;
                         let taken = there_and_back(c, kind, &message)?;
-                        if taken != (field.low..=field.high).contains(&edge) {
+                        if taken != field.has(edge) {
                             c.fault(&format!(
                                 "{} field {i}: {edge} is {}taken",
                                 kind.name,
@@ -297,28 +307,51 @@ pub fn limits(c: &mut Comparison, effort: Effort, random: &mut Random) -> Compar
     Ok(())
 }
 
-/// All fields of a kind at their limits and neighbours, in every combination.
+/// A field's limits and their neighbours alone.
+fn around(field: &Field) -> Vec<i32> {
+    let mut around = vec![field.low - 1, field.low, field.low + 1, field.high - 1, field.high, field.high + 1];
+    around.sort_unstable();
+    around.dedup();
+    around
+}
+
+/// Every two fields of a kind at their limits and neighbours, in every combination, the other fields in range: so each
+/// field out of range also stands before and behind each other one.
+pub fn limits_of_two(c: &mut Comparison, effort: Effort, random: &mut Random) -> Compared<()> {
+    for kind in &KINDS {
+        let fields = kind.fields.iter().enumerate();
+        let limits: Vec<(usize, i32)> =
+            fields.flat_map(|(i, field)| around(field).into_iter().map(move |value| (i, value))).collect();
+        for &(i, first) in &limits {
+            for &(j, second) in limits.iter().filter(|&&(j, _)| j > i) {
+                if !random.one_in(effort.limits) {
+                    continue;
+                }
+                let mut message = random.message(kind);
+                (message[i], message[j]) = (first, second);
+                let taken = there_and_back(c, kind, &message)?;
+                if taken != (kind.fields[i].has(first) && kind.fields[j].has(second)) {
+                    c.fault(&format!("{} {message:?} is {}taken", kind.name, if taken { "" } else { "not " }))?;
+                }
+            }
+        }
+    }
+    Ok(())
+}
+
+/// All fields of a kind at their limits and neighbours, in every combination; of a kind with very many, in some.
 pub fn limits_together(c: &mut Comparison, effort: Effort, random: &mut Random) -> Compared<()> {
     for kind in &KINDS {
-        let choices: Vec<Vec<i32>> = kind
-            .fields
-            .iter()
-            .map(|f| {
-                if f.flag {
-                    vec![-1, 0, 1, 2]
-                } else {
-                    vec![f.low - 1, f.low, f.low + 1, f.high - 1, f.high, f.high + 1]
-                }
-            })
-            .collect();
-        let combinations: usize = choices.iter().map(Vec::len).product();
-        for mut which in 0..combinations {
+        let choices: Vec<Vec<i32>> = kind.fields.iter().map(around).collect();
+        let combinations: u64 = choices.iter().map(|choice| choice.len() as u64).product();
+        for n in 0..combinations.min(COMBINATIONS) {
             if random.one_in(effort.limits) {
+                let mut which = if combinations > COMBINATIONS { random.below(combinations) } else { n };
                 let message: Vec<i32> = choices
                     .iter()
                     .map(|choice| {
-                        let value = choice[which % choice.len()];
-                        which /= choice.len();
+                        let value = choice[(which % choice.len() as u64) as usize];
+                        which /= choice.len() as u64;
                         value
                     })
                     .collect();
@@ -342,11 +375,14 @@ pub fn every_value(c: &mut Comparison, effort: Effort, random: &mut Random) -> C
             }
         }
     }
-    // Every angle of a turn with both ways of turning.
-    let turn = &KINDS[19];
-    for degrees in 0..360 {
-        for right in 0..2 {
-            there_and_back(c, turn, &[degrees, right, random.value(&turn.fields[2])])?;
+    // Every whole degree with both ways of turning.
+    for kind in [kind_of(0x84), kind_of(0x9C)] {
+        for degrees in 0..360 {
+            for right in 0..2 {
+                let mut message = random.message(kind);
+                (message[0], message[1]) = (degrees, right);
+                there_and_back(c, kind, &message)?;
+            }
         }
     }
     Ok(())
@@ -411,6 +447,36 @@ pub fn every_byte(c: &mut Comparison, effort: Effort, random: &mut Random) -> Co
     Ok(())
 }
 
+/// Every U, VW and XY of a pilot, its other bytes random.
+pub fn every_pilot(c: &mut Comparison, effort: Effort, random: &mut Random) -> Compared<()> {
+    for spelled in 0..SPELLINGS as u32 {
+        if random.one_in(effort.large) {
+            let [xy, vw, u, _] = spelled.to_le_bytes();
+            let read = pilot(c, random, u, vw, xy)?;
+            c.seen.pilots += 1;
+            c.seen.pilots_read += u64::from(read);
+        }
+    }
+    Ok(())
+}
+
+/// Whether this pilot is read. Written again it has to have its own bytes, the ignored bits cleared.
+fn pilot(c: &mut Comparison, random: &mut Random, u: u8, vw: u8, xy: u8) -> Compared<bool> {
+    let mut bytes = [0x84, u << 4 | 6, vw, xy, 0, 0, 0, 0, 0];
+    random.fill(&mut bytes[4..]);
+    if c.read(&bytes, FIELDS)? < 0 {
+        return Ok(false);
+    }
+    let fields = c.result().to_vec();
+    c.write(0x84, &fields, 2 * bytes.len())?;
+    bytes[4] &= !0xF1;
+    bytes[5] &= !0xF3;
+    if bytes_of(c.result()) != bytes {
+        c.fault(&format!("a pilot is not written as it was read: {bytes:02X?}"))?;
+    }
+    Ok(true)
+}
+
 /// Bytes of every length, with every declared length and every command, and every room for those of the table.
 pub fn every_length(c: &mut Comparison, effort: Effort, random: &mut Random) -> Compared<()> {
     let mut bytes = [0; 40];
@@ -442,7 +508,7 @@ pub fn every_length(c: &mut Comparison, effort: Effort, random: &mut Random) -> 
 /// Room for everything more often than not.
 fn random_room(random: &mut Random) -> usize {
     if random.one_in(3) {
-        random.below(30) as usize
+        random.below(FIELDS as u64 + 6) as usize
     } else {
         ROOM
     }
@@ -539,7 +605,8 @@ pub fn bus(c: &mut Comparison, effort: Effort, random: &mut Random) -> Compared<
             state.copy_from_slice(c.state());
             if returned == HEARD as i32 && c.result()[0] == 4 {
                 let bytes = c.result()[2..2 + usize::from(c.result()[1]).min(LONGEST)].to_vec();
-                let room = if random.one_in(64) { random.below(25) as usize } else { 24 + random.below(9) as usize };
+                let (least, choices) = if random.one_in(64) { (0, FIELDS + 1) } else { (FIELDS, 9) };
+                let room = least + random.below(choices as u64) as usize;
                 read_and_write(c, &bytes, room)?;
             }
         }
@@ -549,7 +616,7 @@ pub fn bus(c: &mut Comparison, effort: Effort, random: &mut Random) -> Compared<
 
 /// The symbols of the next thing said on the bus.
 fn said(c: &mut Comparison, random: &mut Random, symbols: &mut Vec<u32>) -> Compared<()> {
-    let kind = &KINDS[random.below(20) as usize];
+    let kind = &KINDS[random.below(KINDS.len() as u64) as usize];
     symbols.clear();
     let mut bytes = datagram(c, random, kind)?;
     match random.below(32) {
@@ -631,9 +698,11 @@ pub const SECTIONS: &[Section] = &[
     ("longer states", longer_states),
     ("damaged states", damaged_states),
     ("limits of each field", limits),
+    ("limits of two fields", limits_of_two),
     ("limits together", limits_together),
     ("every value of each field", every_value),
     ("every byte of each kind", every_byte),
+    ("every angle of the pilot", every_pilot),
     ("bytes of every length", every_length),
     ("every command", every_command),
     ("every length of result", every_room),

@@ -22,8 +22,11 @@ pub struct Seen {
     /// The listener's answers.
     answers: [u64; 8],
     /// Messages read and written, by place in the table of kinds.
-    read: [u64; 20],
-    written: [u64; 20],
+    read: [u64; KINDS.len()],
+    written: [u64; KINDS.len()],
+    /// Spellings of a pilot's angles, and those of them that were read.
+    pub pilots: u64,
+    pub pilots_read: u64,
     /// Records written.
     records: u64,
 }
@@ -239,6 +242,9 @@ impl Seen {
                     missing.push(format!("a {} {what}", kind.name));
                 }
             }
+        }
+        if self.pilots_read == 0 || self.pilots_read == self.pilots {
+            missing.push("angles of a pilot, read and refused".to_string());
         }
         if self.records == 0 {
             missing.push("a record written".to_string());

@@ -8,11 +8,11 @@
 
 /* The ten symbols of rules 10.4: a stray, a datagram cut off by a collision, its repeat, and a variation. Then a depth cut
    off after four of five symbols by a key, with a symbol above 511 inside the key; a key whose repeat does not match;
-   a turn; and a datagram that is not in the table. */
+   a turn; a pilot with ignored bits set; and a datagram that is not in the table. */
 static const uint32_t bus[] = {
     0x03E, 0x120, 0x001, 0x120, 0x001, 0x03E, 0x000, 0x199, 0x000, 0x0FE,
     0x100, 0x002, 0x000, 0x064, 0x186, 0x011, 0x320, 0x005, 0x0FA, 0x186, 0x011, 0x060, 0x0DF,
-    0x19C, 0x0C1, 0x02C, 0x0FE, 0x136, 0x000, 0x001,
+    0x19C, 0x0C1, 0x02C, 0x0FE, 0x184, 0x0F6, 0x0EC, 0x0B3, 0x042, 0x003, 0x0FE, 0x002, 0x008, 0x136, 0x000, 0x001,
 };
 
 struct kind {
@@ -20,7 +20,9 @@ struct kind {
     const char *name;
 };
 
-static const struct kind kinds[] = {{0x20, "speed"}, {0x86, "key"}, {0x99, "variation"}, {0x9C, "turn"}};
+static const struct kind kinds[] = {
+    {0x20, "speed"}, {0x84, "pilot"}, {0x86, "key"}, {0x99, "variation"}, {0x9C, "turn"},
+};
 
 static const char *const answers[] = {"opened", "cancelled", "stray", "kept", "handed out"};
 
@@ -104,9 +106,13 @@ static void write_all(void)
     static const int32_t depth[] = {1234, 1, 0, 0, 0, 1}, flag[] = {1234, 2, 0, 0, 0, 1};
     static const int32_t coldest[] = {-100}, colder[] = {-101}, west[] = {-127}, east[] = {128};
     static const int32_t north_right[] = {0, 1, -2}, logs[] = {1048575, 65536};
+    static const int32_t pilot[] = {359, 0, 540, 1, 0, 1, 1, 0, -30, 255, 5};
+    static const int32_t course[] = {359, 0, 720, 1, 0, 1, 1, 0, -30, 255, 5};
+    static const int32_t way[] = {359, 2, 540, 1, 0, 1, 1, 0, -30, 255, 5};
     write_one(0x00, depth, 6, SEATALK_SYMBOLS_SIZE);
     write_one(0x25, logs, 2, SEATALK_SYMBOLS_SIZE);
     write_one(0x27, coldest, 1, SEATALK_SYMBOLS_SIZE);
+    write_one(0x84, pilot, 11, SEATALK_SYMBOLS_SIZE);
     write_one(0x99, west, 1, SEATALK_SYMBOLS_SIZE);
     write_one(0x99, east, 1, SEATALK_SYMBOLS_SIZE);
     write_one(0x9C, north_right, 3, SEATALK_SYMBOLS_SIZE);
@@ -114,6 +120,8 @@ static void write_all(void)
     write_one(0x00, depth, 5, SEATALK_SYMBOLS_SIZE);
     write_one(0x00, flag, 6, SEATALK_SYMBOLS_SIZE);
     write_one(0x27, colder, 1, SEATALK_SYMBOLS_SIZE);
+    write_one(0x84, course, 11, SEATALK_SYMBOLS_SIZE);
+    write_one(0x84, way, 11, SEATALK_SYMBOLS_SIZE);
     write_one(0x27, coldest, 1, 7);
 }
 
@@ -163,9 +171,9 @@ static void record_all(void)
 static void check_header(void)
 {
     static const int32_t values[] = {0, 1, -1, 127, -128, 65535, -65536, INT32_MAX, INT32_MIN, INT32_MIN + 1};
-    static const uint8_t largest_fields[SEATALK_FIELDS_SIZE] = {0};
+    static const uint8_t pilot[] = {0x84, 0x06, 0, 0, 0, 0, 0, 0, 0};
     static uint8_t state[SEATALK_STATE_SIZE];
-    uint8_t fields[8], heard[SEATALK_HEARD_SIZE], symbols[SEATALK_SYMBOLS_SIZE];
+    uint8_t fields[SEATALK_FIELDS_SIZE], heard[SEATALK_HEARD_SIZE], symbols[SEATALK_SYMBOLS_SIZE];
     for (size_t i = 0; i < sizeof values / sizeof values[0]; i++) {
         seatalk_set_field(fields, 1, values[i]);
         if (seatalk_field(fields, 1) != values[i])
@@ -178,9 +186,8 @@ static void check_header(void)
            (int)SEATALK_REFUSAL_PLACE(-(7 + 256 * 3)));
     printf("state one byte short: %d\n", (int)seatalk_hear(state, sizeof state - 1, 0x120, heard, sizeof heard));
     printf("heard one byte short: %d\n", (int)seatalk_hear(state, sizeof state, 0x120, heard, sizeof heard - 1));
-    printf("largest fields: %d\n",
-           (int)seatalk_write(0x00, largest_fields, sizeof largest_fields, symbols, sizeof symbols));
-    printf("largest symbols: %d\n", (int)seatalk_write(0x25, largest_fields, 8, symbols, sizeof symbols));
+    printf("largest fields: %d\n", (int)seatalk_read(pilot, sizeof pilot, fields, sizeof fields));
+    printf("largest symbols: %d\n", (int)seatalk_write(0x84, fields, sizeof fields, symbols, sizeof symbols));
 }
 
 int main(void)

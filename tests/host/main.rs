@@ -15,7 +15,7 @@ mod reference;
 mod rules;
 mod second;
 
-use cases::{Effort, Random, SECTIONS};
+use cases::{Effort, Random, SECTIONS, SPELLINGS, SPELLINGS_READ};
 use compare::{Compared, Comparison};
 use faulty::FAULTY;
 use library::{Library, LINKED};
@@ -64,6 +64,12 @@ fn all() -> bool {
         let symbols = FULL.symbols;
         println!("compared: the random bus has {symbols} symbols; of all sections {handed} datagrams were handed out,");
         println!("compared: {read} messages read and {written} written, and {} records written", c.seen.records());
+        let (pilots, pilots_read) = (c.seen.pilots, c.seen.pilots_read);
+        println!("compared: {pilots} spellings of a pilot's angles, {pilots_read} of them read and written back");
+        if (pilots, pilots_read) != (SPELLINGS, SPELLINGS_READ) {
+            println!("compared: there are {SPELLINGS} of them, and {SPELLINGS_READ} are to be read");
+            faults += 1;
+        }
         let before = c.calls;
         if let Ok(examples) = reference::examples(&mut c) {
             println!("compared: {:>9} calls: {examples} worked examples", c.calls - before);

@@ -2,7 +2,7 @@
 //! the wanted values stand in the file; the second implementation is compared with them too, as in every call.
 
 use crate::compare::{Compared, Comparison};
-use crate::second::{HEARD, KINDS, LONGEST, STATE};
+use crate::second::{HEARD, KINDS, LONGEST, MOST_FIELDS, STATE};
 
 const EXAMPLES: &str = include_str!("reference.txt");
 
@@ -37,7 +37,7 @@ fn holds(c: &mut Comparison, bytes: &[u8], reading: &str, written: &[u8]) -> Com
     if heard(c, bytes)? != (reading != "refused 3") {
         return Ok(false);
     }
-    let returned = c.read(bytes, 4 * 6)?;
+    let returned = c.read(bytes, 4 * MOST_FIELDS)?;
     if name == "refused" {
         return Ok(returned == -numbers[0]);
     }

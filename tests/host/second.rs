@@ -10,6 +10,12 @@ pub struct Field {
     pub flag: bool,
 }
 
+impl Field {
+    pub fn has(&self, value: i32) -> bool {
+        (self.low..=self.high).contains(&value)
+    }
+}
+
 pub struct Kind {
     pub command: u8,
     /// The bytes after the command, as the table prints them.
@@ -26,13 +32,16 @@ const FLAG: Field = Field { low: 0, high: 1, flag: true };
 const WORD: Field = number(0, 65535);
 const TWENTY_BITS: Field = number(0, 1048575);
 const HALF_DEGREES: Field = number(0, 719);
+const WHOLE_DEGREES: Field = number(0, 359);
+const BYTE: Field = number(0, 255);
+const SIGNED_BYTE: Field = number(-128, 127);
 const MINUTES: Field = number(0, 5999);
 
 const fn kind(command: u8, after: &'static str, name: &'static str, fields: &'static [Field]) -> Kind {
     Kind { command, after, name, fields }
 }
 
-pub const KINDS: [Kind; 20] = [
+pub const KINDS: [Kind; 21] = [
     kind(0x00, "02 YZ XX XX", "depth", &[WORD, FLAG, FLAG, FLAG, FLAG, FLAG]),
     kind(0x10, "01 XX YY", "windangle", &[HALF_DEGREES]),
     kind(0x11, "01 XX 0Y", "windspeed", &[number(0, 1279), FLAG]),
@@ -49,11 +58,21 @@ pub const KINDS: [Kind; 20] = [
     kind(0x53, "U0 VW", "course", &[HALF_DEGREES]),
     kind(0x54, "T1 RS HH", "time", &[number(0, 23), number(0, 59), number(0, 59)]),
     kind(0x56, "M1 DD YY", "date", &[number(1, 12), number(1, 31), number(0, 99)]),
-    kind(0x86, "X1 YY yy", "key", &[number(0, 15), number(0, 255)]),
+    kind(
+        0x84,
+        "U6 VW XY 0Z 0M RR SS TT",
+        "pilot",
+        &[WHOLE_DEGREES, FLAG, HALF_DEGREES, FLAG, FLAG, FLAG, FLAG, FLAG, SIGNED_BYTE, BYTE, BYTE],
+    ),
+    kind(0x86, "X1 YY yy", "key", &[number(0, 15), BYTE]),
     kind(0x89, "U2 VW XY 2Z", "heading", &[HALF_DEGREES, HALF_DEGREES, FLAG]),
     kind(0x99, "00 XX", "variation", &[number(-127, 128)]),
-    kind(0x9C, "U1 VW RR", "turn", &[number(0, 359), FLAG, number(-128, 127)]),
+    kind(0x9C, "U1 VW RR", "turn", &[WHOLE_DEGREES, FLAG, SIGNED_BYTE]),
 ];
+
+pub fn kind_of(command: u8) -> &'static Kind {
+    KINDS.iter().find(|kind| kind.command == command).expect("a kind")
+}
 
 impl Kind {
     /// Length of its datagram: the command and the printed bytes.
@@ -66,7 +85,7 @@ pub const STATE: usize = 18;
 pub const HEARD: usize = 20;
 pub const RECORD: usize = 8;
 pub const LONGEST: usize = 18;
-pub const MOST_FIELDS: usize = 6;
+pub const MOST_FIELDS: usize = 11;
 /// No input is longer than this.
 pub const INPUT: usize = 64;
 
@@ -147,8 +166,11 @@ impl Second {
             Broken::Low(command, field, by) => second.low = (u16::from(command), field, by),
             Broken::High(command, field, by) => second.high = (u16::from(command), field, by),
         }
-        if second.is(Rule::Command84) {
-            second.kinds[0x84] = second.kinds[0x9C];
+        if second.is(Rule::Command85) {
+            second.kinds[0x85] = second.kinds[0x9C];
+        }
+        if second.is(Rule::Command95) {
+            second.kinds[0x95] = second.kinds[0x84];
         }
         second
     }
@@ -369,7 +391,7 @@ impl Second {
         let Some(kind) = kind else {
             holds[4] = true;
             // No kind and so no length or room to judge: these stand in for them when the order is broken.
-            holds[5] = declared > 7;
+            holds[5] = declared > 9;
             holds[8] = result.len() < 4;
             let number = self.first(Call::Read, READ_ORDER, &holds).unwrap_or(4);
             return self.refused(number, result);
@@ -499,6 +521,7 @@ impl Second {
                 let day = within(byte(2), self.or(Day0, 1, 0), self.or(Day32, days, 32))?;
                 put(&[month, day, within(byte(3), 0, self.or(Year100, 99, 100))?]);
             }
+            0x84 => put(&self.pilot(d)?),
             0x86 => {
                 let sum = self.or(SumModulo, byte(2) + byte(3), (byte(2) + byte(3)) % 64 + 192);
                 if sum != 255 && !self.is(SumNotJudged) {
@@ -535,6 +558,55 @@ impl Second {
             _ => put(&[0; MOST_FIELDS]),
         }
         Ok(())
+    }
+
+    /// The fields of a pilot; refusal 7.
+    fn pilot(&self, d: &[u8; INPUT]) -> Result<Fields, u8> {
+        use Rule::*;
+        let (u, xy, z, m) = (d[1] / 16, d[3], d[4], d[5]);
+        let flag = |bits: u8| i32::from(bits != 0);
+        let six = d[2] & self.or(PilotSevenBits, 0x3F, 0x7F);
+        let misspelled = six > self.or(PilotSix45, self.or(PilotSix44Refused, 44, 43), 45)
+            || xy > self.or(Course180, self.or(Course179Refused, 179, 178), 180)
+            || (self.is(PilotZerosJudged) && (z | m) > 0xF)
+            || (self.is(OneModeAtMost) && (z & 0xE).count_ones() > 1);
+        if misspelled {
+            return Err(7);
+        }
+        let degrees = match self.rule {
+            Some(PilotNotModulo) if (u, six) == (0xF, 44) => 360,
+            Some(PilotHighTwo) => (90 * i32::from(u & 3) + 2 * i32::from(six) + i32::from(u / 4)) % 360,
+            Some(PilotHalfAngle) => half_degrees(u, six) / 2,
+            _ => whole_degrees(u, six),
+        };
+        let right = flag(self.or(PilotRightBit, u & 8, u & 4));
+        let quarter = match self.rule {
+            Some(CourseWithoutV) => 0,
+            Some(CourseByTwo) => d[2] / 32,
+            Some(CourseLowBits) => d[2] / 16 % 4,
+            _ => d[2] / 64,
+        };
+        let course = self.or(CourseQuarter90, 180, 90) * i32::from(quarter) + i32::from(xy);
+        let modes = self.or(ModesHigh, z, z / 16);
+        let auto = flag(modes & self.or(AutoBit, 2, 1));
+        let vane = flag(modes & self.or(VaneBit, 4, 2));
+        let track = flag(modes & self.or(TrackBit, 8, 4));
+        let off_course = flag(self.or(OffCourseInZ, m, z) & self.or(OffCourseBit, 4, 8));
+        let wind_shift = flag(self.or(WindShiftInZ, m, z) & self.or(WindShiftBit, 8, 2));
+        let rudder = match self.rule {
+            Some(PilotRudderUnsigned) => i32::from(d[6]),
+            Some(PilotRudderLeft) => -i32::from(d[6] as i8),
+            _ => i32::from(d[6] as i8),
+        };
+        let (ss, tt) = self.or(SsTtSwapped, (d[7], d[8]), (d[8], d[7]));
+        let tt = self.or(TtSigned, i32::from(tt), i32::from(tt as i8));
+        let mut fields = [degrees, right, course, auto, vane, track, off_course, wind_shift, rudder, i32::from(ss), tt];
+        match self.rule {
+            Some(CourseBeforeTurning) => fields.swap(1, 2),
+            Some(AlarmsBeforeModes) => fields[3..8].rotate_left(3),
+            _ => {}
+        }
+        Ok(fields)
     }
 
     pub fn write(&self, command: u32, fields: &[u8], result: &mut [u8]) -> i32 {
@@ -619,71 +691,104 @@ impl Second {
         let flag = |value: i32, bit: u8| if value != 0 { bit } else { 0 };
         let digits = |u: u8, l: u8| (u & 15) * 16 + l;
         let half = |value: i32| self.halves[value.rem_euclid(720) as usize];
-        let after: [u8; 6] = match command {
+        let mut bytes = [0; LONGEST];
+        bytes[0] = command;
+        let mut put = |after: &[u8]| bytes[1..=after.len()].copy_from_slice(after);
+        match command {
             0x00 => {
                 let y = flag(f[1], 8) | flag(f[2], self.or(WriteMetricBit, 4, 2));
                 let (deep, shallow) = self.or(WriteDeepShallow, (f[4], f[5]), (f[5], f[4]));
                 let z = flag(f[3], 4) | flag(deep, 2) | flag(shallow, 1);
-                [0x02, digits(y, z), low(f[0]), second(f[0]), 0, 0]
+                put(&[0x02, digits(y, z), low(f[0]), second(f[0])]);
             }
             0x10 => {
                 let both = [second(f[0]), low(f[0])];
                 let [x, y] = self.or(WriteWindAngle, both, [both[1], both[0]]);
-                [0x01, x, y, 0, 0, 0]
+                put(&[0x01, x, y]);
             }
-            0x11 => [0x01, (f[0] / 10) as u8 | flag(f[1], 0x80), (f[0] % 10) as u8, 0, 0, 0],
-            0x20 | 0x52 => [0x01, low(f[0]), second(f[0]), 0, 0, 0],
-            0x21 => [0x02, low(f[0]), second(f[0]), third(f[0]), 0, 0],
-            0x22 => [0x02, low(f[0]), second(f[0]), 0, 0, 0],
-            0x25 => [digits(third(f[0]), 4), low(f[0]), second(f[0]), low(f[1]), second(f[1]), third(f[1])],
+            0x11 => put(&[0x01, (f[0] / 10) as u8 | flag(f[1], 0x80), (f[0] % 10) as u8]),
+            0x20 | 0x52 => put(&[0x01, low(f[0]), second(f[0])]),
+            0x21 => put(&[0x02, low(f[0]), second(f[0]), third(f[0])]),
+            0x22 => put(&[0x02, low(f[0]), second(f[0]), 0]),
+            0x25 => put(&[digits(third(f[0]), 4), low(f[0]), second(f[0]), low(f[1]), second(f[1]), third(f[1])]),
             0x26 => {
                 let de = digits(flag(f[2], 4), flag(f[3], 1) | flag(f[4], 2));
                 let de = self.or(WriteSensorBit, de, de | 0x80);
-                [0x04, low(f[0]), second(f[0]), low(f[1]), second(f[1]), de]
+                put(&[0x04, low(f[0]), second(f[0]), low(f[1]), second(f[1]), de]);
             }
             0x27 => {
                 let value = f[0] + self.or(WriteWater100, 100, 0);
-                [0x01, low(value), second(value), 0, 0, 0]
+                put(&[0x01, low(value), second(value)]);
             }
-            0x30 => [0x00, low(self.or(WriteLampTimes4, 4, 1) * f[0]), 0, 0, 0, 0],
+            0x30 => put(&[0x00, low(self.or(WriteLampTimes4, 4, 1) * f[0])]),
             0x50 | 0x51 => {
                 let z = self.or(WritePositionA, 0, 0xA);
-                [digits(z, 2), low(f[0]), low(f[1]), second(f[1]) | flag(f[2], 0x80), 0, 0]
+                put(&[digits(z, 2), low(f[0]), low(f[1]), second(f[1]) | flag(f[2], 0x80)]);
             }
             0x53 => {
                 let (u, six) = half(f[0]);
-                [digits(u, 0), six, 0, 0, 0, 0]
+                put(&[digits(u, 0), six]);
             }
             0x54 => {
                 let rs = low(4 * f[1] + f[2] / 16);
-                [digits((f[2] % 16) as u8, 1), self.or(WriteSeconds, rs, low(4 * f[1])), low(f[0]), 0, 0, 0]
+                put(&[digits((f[2] % 16) as u8, 1), self.or(WriteSeconds, rs, low(4 * f[1])), low(f[0])]);
             }
-            0x56 => [digits(low(f[0]), 1), low(f[1]), low(f[2]), 0, 0, 0],
-            0x86 => [digits(low(f[0]), 1), low(f[1]), self.or(WriteRepeat, !low(f[1]), low(f[1])), 0, 0, 0],
+            0x56 => put(&[digits(low(f[0]), 1), low(f[1]), low(f[2])]),
+            0x84 => put(&self.pilot_bytes(f)),
+            0x86 => put(&[digits(low(f[0]), 1), low(f[1]), self.or(WriteRepeat, !low(f[1]), low(f[1]))]),
             0x89 => {
                 let (u, six) = half(f[0]);
                 let quarter = (f[1] / 180) as u8 & 3;
                 let two = self.or(WriteHeadingTwo, 2, 0);
-                [digits(u, 2), quarter * 64 + six, (f[1] % 180) as u8, digits(two, flag(f[2], 2)), 0, 0]
+                put(&[digits(u, 2), quarter * 64 + six, (f[1] % 180) as u8, digits(two, flag(f[2], 2))]);
             }
-            0x99 => [0x00, low(self.or(WriteVariation, -f[0], f[0])), 0, 0, 0, 0],
+            0x99 => put(&[0x00, low(self.or(WriteVariation, -f[0], f[0]))]),
             _ => {
                 let right = f[1] != 0;
-                let place = f[0].rem_euclid(360) as usize + if right { 360 } else { 0 };
-                let (mut u, mut six) = self.wholes[place];
+                let (mut u, mut six) = self.whole(f[0], right);
                 if self.is(WriteEvenRight) && right && f[0] % 2 == 0 {
-                    (u, six) = self.wholes[place - 360];
+                    (u, six) = self.whole(f[0], false);
                 }
                 if self.is(WriteNorthRight) && right && f[0] == 0 {
                     (u, six) = (0xC, 0);
                 }
-                [digits(u, 1), six, low(f[2]), 0, 0, 0]
+                put(&[digits(u, 1), six, low(f[2])]);
             }
-        };
-        let mut bytes = [0; LONGEST];
-        bytes[0] = command;
-        bytes[1..7].copy_from_slice(&after);
+        }
         bytes
+    }
+
+    /// U and the six bits of a whole degree.
+    fn whole(&self, degrees: i32, right: bool) -> (u8, u8) {
+        self.wholes[degrees.rem_euclid(360) as usize + if right { 360 } else { 0 }]
+    }
+
+    /// The bytes of a pilot after its command.
+    fn pilot_bytes(&self, f: &Fields) -> [u8; 8] {
+        use Rule::*;
+        let flag = |value: i32, bit: u8| if value != 0 { bit } else { 0 };
+        let (degrees, right) = (f[0], f[1] != 0);
+        let (u, six) = match self.rule {
+            Some(WritePilotLeft) => self.whole(degrees, false),
+            Some(WritePilotNorth) if right && degrees == 0 => (0xC, 0),
+            Some(WritePilotHalfAngle) => self.halves[(2 * degrees).rem_euclid(720) as usize],
+            _ => self.whole(degrees, right),
+        };
+        let quarter = self.or(WriteCourseWithoutV, (f[2] / 180) as u8 & 3, 0);
+        let (vane, track) = self.or(WriteVaneTrack, (f[4], f[5]), (f[5], f[4]));
+        let (off_course, wind_shift) = self.or(WriteAlarms, (f[6], f[7]), (f[7], f[6]));
+        let mut z = flag(f[3], 2) | flag(vane, 4) | flag(track, 8);
+        let mut m = flag(off_course, 4) | flag(wind_shift, 8);
+        match self.rule {
+            Some(WriteModeTwo) => z |= 0x20,
+            Some(WriteAlarmBit) => m |= 1,
+            Some(WriteOffCourseInZ) => (z, m) = (z | m & 4, m & 8),
+            _ => {}
+        }
+        let rudder = self.or(WriteRudderSize, f[8], f[8].abs());
+        let (ss, tt) = self.or(WriteSsTt, (f[9], f[10]), (f[10], f[9]));
+        let attribute = u * 16 + self.or(WritePilotLength, 6, 5);
+        [attribute, quarter * 64 + six, (f[2] % 180) as u8, z, m, rudder as u8, ss as u8, tt as u8]
     }
 
     pub fn record(&self, time: u32, symbol: u32, result: &mut [u8]) -> i32 {

@@ -1,6 +1,7 @@
 """The second implementation with one rule broken at a time: what is broken, its text in rules.py, the text instead.
 
-Each text must stand in rules.py exactly once. The comparison has to see a difference for every one of them."""
+Each text must stand in rules.py exactly once. The comparison has to see a difference for every one of them, and where kinds
+are named before a colon, in the limits of each of these."""
 from pathlib import Path
 
 BROKEN = [
@@ -67,9 +68,9 @@ BROKEN = [
     ("50: 5999 hundredths refused", "0, 90), within(yyyy & 0x7FFF, 0, 5999)", "0, 90), within(yyyy & 0x7FFF, 0, 5998)"),
     ("50: south in the minutes", "0, 90), within(yyyy & 0x7FFF", "0, 90), within(yyyy & 0xFFFF"),
     ("52: high byte first", '"ground", lambda d: [word(d[2], d[3])]', '"ground", lambda d: [word(d[3], d[2])]'),
-    ("53, 89: six of 45", "vw & 0x3F, 0, 44", "vw & 0x3F, 0, 45"),
-    ("53, 89: six of 44 refused", "vw & 0x3F, 0, 44", "vw & 0x3F, 0, 43"),
-    ("53: ignored bits in six", "vw & 0x3F", "vw & 0x7F"),
+    ("53, 89: six of 45", "vw & 0x3F, 0, 44)\n    return", "vw & 0x3F, 0, 45)\n    return"),
+    ("53, 89: six of 44 refused", "vw & 0x3F, 0, 44)\n    return", "vw & 0x3F, 0, 43)\n    return"),
+    ("53: ignored bits in six", "vw & 0x3F, 0, 44)\n    return", "vw & 0x7F, 0, 44)\n    return"),
     ("53, 89: divided by 2", "(u & 0xC) // 4", "(u & 0xC) // 2"),
     ("54: 24 hours", "0, 23", "0, 24"),
     ("54: 60 minutes", "(d[2] & 0xFC) // 4, 0, 59", "(d[2] & 0xFC) // 4, 0, 60"),
@@ -79,19 +80,49 @@ BROKEN = [
     ("56: day 0", "1, 31", "0, 31"),
     ("56: day 32", "1, 31", "1, 32"),
     ("56: year 100", "0, 99", "0, 100"),
+    ("84, 9C: not modulo 360", "ones) % 360", "ones) % 361"),
+    ("84, 9C: as a half-degree angle", "+ 2 * six + ones", "+ 2 * six + (u & 0xC) // 8"),
+    ("84, 9C: six of 45", "vw & 0x3F, 0, 44)\n    ones", "vw & 0x3F, 0, 45)\n    ones"),
+    ("84, 9C: six of 44 refused", "vw & 0x3F, 0, 44)\n    ones", "vw & 0x3F, 0, 43)\n    ones"),
+    ("84, 9C: V's bits in six", "vw & 0x3F, 0, 44)\n    ones", "vw, 0, 44)\n    ones"),
+    ("84, 9C: right from U&4", "% 360, u & 8 != 0", "% 360, u & 4 != 0"),
+    ("84: not in the table", '    0x84: (6, "pilot", pilot),\n', ""),
+    ("84: eight bytes", '0x84: (6, "pilot"', '0x84: (5, "pilot"'),
+    ("95 as 84", '0x84: (6, "pilot", pilot)', '0x84: (6, "pilot", pilot), 0x95: (6, "pilot", pilot)'),
+    ("84: heading in half degrees", "angle = turning(digits(d[1])[0], d[2])",
+     "angle = [half_degrees(digits(d[1])[0], d[2]), d[1] & 0x80 != 0]"),
+    ("84: course by V/2", "d[2] // 64", "d[2] // 32"),
+    ("84: course without V", "180 * (d[2] // 64)", "0"),
+    ("84: course's quarter of 90", "180 * (d[2] // 64)", "90 * (d[2] // 64)"),
+    ("84: XY of 180", "0, 179), *modes", "0, 180), *modes"),
+    ("84: XY of 179 refused", "0, 179), *modes", "0, 178), *modes"),
+    ("84: auto from Z&1", "[z & 2 != 0, z & 4 != 0, z & 8", "[z & 1 != 0, z & 4 != 0, z & 8"),
+    ("84: vane from Z&2", "[z & 2 != 0, z & 4 != 0, z & 8", "[z & 2 != 0, z & 2 != 0, z & 8"),
+    ("84: track from Z&4", "[z & 2 != 0, z & 4 != 0, z & 8", "[z & 2 != 0, z & 4 != 0, z & 4"),
+    ("84: modes from the high digit", "z, m = digits(d[4])[1]", "z, m = digits(d[4])[0]"),
+    ("84: ignored bits judged", "z, m = digits(d[4])[1]", "z, m = within(d[4], 0, 15)"),
+    ("84: track alone", "[z & 2 != 0, z & 4 != 0, z & 8", "[within(z & 0xE, 0, 8) & 2 != 0, z & 4 != 0, z & 8"),
+    ("84: off course from M&8", "[m & 4 != 0, m & 8 != 0]", "[m & 8 != 0, m & 8 != 0]"),
+    ("84: off course from Z&4", "[m & 4 != 0, m & 8 != 0]", "[z & 4 != 0, m & 8 != 0]"),
+    ("84: wind shift from Z&8", "[m & 4 != 0, m & 8 != 0]", "[m & 4 != 0, z & 8 != 0]"),
+    ("84: alarms swapped", "*alarms, signed", "*alarms[::-1], signed"),
+    ("84: alarms before modes", "*modes, *alarms", "*alarms, *modes"),
+    ("84: turning way before the heading", "[*angle, 180", "[*angle[::-1], 180"),
+    ("84: rudder unsigned", "signed(d[6])", "d[6]"),
+    ("84: rudder left positive", "signed(d[6])", "-signed(d[6])"),
+    ("84: rudder last", "signed(d[6]), d[7], d[8]]", "d[7], d[8], signed(d[6])]"),
+    ("84: SS and TT swapped", "d[7], d[8]]", "d[8], d[7]]"),
+    ("84: SS signed", "d[7], d[8]]", "signed(d[7]), d[8]]"),
+    ("84: TT of one digit", "d[7], d[8]]", "d[7], d[8] % 16]"),
     ("86: sum not judged", "d[2] + d[3] != 255", "False"),
     ("86: sum modulo 256", "d[2] + d[3] != 255", "d[2] + d[3] not in (255, 319)"),
     ("86: bad repeat as 7", "raise Refused(6)", "raise Refused(7)"),
     ("86: code before source", "[digits(d[1])[0], d[2]]", "[d[2], digits(d[1])[0]]"),
-    ("89: XY of 180", "0, 179)", "0, 180) "),
+    ("89: XY of 180", "0, 179), z", "0, 180), z"),
     ("89: reference by V/2", "v // 4", "v // 2"),
     ("89: locked at the wrong bit", "z & 2 != 0]", "z & 1 != 0]"),
     ("99: 80 as -128", "[-signed(d[2])]", "[-128 if d[2] == 128 else -signed(d[2])]"),
     ("99: west positive", "[-signed(d[2])]", "[signed(d[2])]"),
-    ("9C: not modulo 360", "ones) % 360", "ones) % 361"),
-    ("9C: as a half-degree angle", "+ 2 * six + ones", "+ 2 * six + (u & 0xC) // 8"),
-    ("9C: six of 45", "d[2] & 0x3F, 0, 44", "d[2] & 0x3F, 0, 45"),
-    ("9C: right from U&4", "% 360, u & 8 != 0", "% 360, u & 4 != 0"),
     ("9C: rudder unsigned", "signed(d[3])", "d[3]"),
 ]
 
@@ -116,12 +147,13 @@ def differs(broken_listing, data, got):
 
 def unseen(results):
     """What is broken without a difference to any of the results (name, recording, the program's text): small ones and
-    the limits, a rule of one kind first in that kind's limits."""
-    small = [result for result in results if len(result[1]) < 2000]
-    large = [result for result in results if result[0].startswith(("limits", "every"))]
+    those of every command; a rule of some kinds in the limits of each."""
+    limits = {name: [(data, got)] for name, data, got in results if name.startswith("limits")}
+    others = [(data, got) for name, data, got in results if len(data) < 2000 or name.startswith("every")]
     missed = []
     for what, broken_listing in broken_listings():
-        own = [result for result in large if result[0].endswith(" " + what[:2])]
-        if not any(differs(broken_listing, data, got) for _, data, got in own + small + large):
+        kinds = what.split(":")[0].split(", ") if ":" in what else []
+        places = [limits[f"limits of {kind}"] for kind in kinds] or [others]
+        if not all(any(differs(broken_listing, data, got) for data, got in place) for place in places):
             missed.append(what)
     return missed

@@ -18,7 +18,7 @@ EXAMPLES = {bytes.fromhex(datagram): reading for datagram, reading in {
     "10 01 02 CF": "windangle 719", "10 01 02 D0": "refused 7"}.items()}
 # Command and low digit of the second byte.
 LENGTHS = {0x00: 2, 0x10: 1, 0x11: 1, 0x20: 1, 0x21: 2, 0x22: 2, 0x25: 4, 0x26: 4, 0x27: 1, 0x30: 0, 0x50: 2,
-           0x51: 2, 0x52: 1, 0x53: 0, 0x54: 1, 0x56: 1, 0x86: 1, 0x89: 2, 0x99: 0, 0x9C: 1}
+           0x51: 2, 0x52: 1, 0x53: 0, 0x54: 1, 0x56: 1, 0x84: 6, 0x86: 1, 0x89: 2, 0x99: 0, 0x9C: 1}
 WORDS = [0, 1, 9, 10, 99, 100, 101, 255, 256, 999, 1000, 9999, 10000, 32767, 32768, 65534, 65535]
 
 
@@ -79,10 +79,10 @@ def in_range(r, command):
         high, rest = below(1, 13), (below(1, 32), below(100))
     elif command == 0x86:
         rest = rest[0], 255 - rest[0]
-    elif command in (0x53, 0x89, 0x9C):
+    elif command in (0x53, 0x84, 0x89, 0x9C):
         rest = bits(2) << 6 | below(45), *rest[1:]
-    if command == 0x89:
-        rest = rest[0], below(180), rest[2]
+    if command in (0x84, 0x89):
+        rest = rest[0], below(180), *rest[2:]
     return bytes([command, high << 4 | LENGTHS[command], *rest])
 
 
@@ -129,6 +129,12 @@ def limits(r, command):
             made(0, 0, hh) for hh in every]
     if command == 0x56:
         return [made(m, day, y) for m in range(16) for day in around(0, 31, 127, 254) for y in around(0, 99, 127, 254)]
+    if command == 0x84:
+        angles = [made(u, vw, xy, *r.randbytes(5)) for u in range(16) for vw in every for xy in (179, 180)]
+        courses = [made(any4(), v << 6 | 44, xy, *r.randbytes(5)) for v in range(4) for xy in every]
+        others = [made(any4(), v, any8() % 180, *(byte if place == n else any8() for n in range(5)))
+                  for place in range(5) for byte in every for v in (0, 0xC0)]
+        return angles + courses + others
     if command == 0x86:
         return [made(any4(), y, (v - y) % 256) for y in every for v in (254, 255, 256, 319, 127)]
     if command == 0x89:

@@ -29,6 +29,13 @@ def half_degrees(u, vw):
     return 180 * (u & 3) + 4 * six + (u & 0xC) // 4
 
 
+def turning(u, vw):
+    """A whole-degree angle and whether the boat turns right."""
+    six = within(vw & 0x3F, 0, 44)
+    ones = (u & 8 != 0) + (u & 4 != 0)
+    return [(90 * (u & 3) + 2 * six + ones) % 360, u & 8 != 0]
+
+
 def depth(d):
     y, z = digits(d[2])
     return [word(d[3], d[4]), y & 8 != 0, y & 4 != 0, z & 4 != 0, z & 2 != 0, z & 1 != 0]
@@ -87,6 +94,14 @@ def date(d):
     return [within(digits(d[1])[0], 1, 12), within(d[2], 1, 31), within(d[3], 0, 99)]
 
 
+def pilot(d):
+    z, m = digits(d[4])[1], digits(d[5])[1]
+    angle = turning(digits(d[1])[0], d[2])
+    modes = [z & 2 != 0, z & 4 != 0, z & 8 != 0]
+    alarms = [m & 4 != 0, m & 8 != 0]
+    return [*angle, 180 * (d[2] // 64) + within(d[3], 0, 179), *modes, *alarms, signed(d[6]), d[7], d[8]]
+
+
 def key(d):
     if d[2] + d[3] != 255:
         raise Refused(6)
@@ -99,10 +114,7 @@ def heading(d):
 
 
 def turn(d):
-    u = digits(d[1])[0]
-    six = within(d[2] & 0x3F, 0, 44)
-    ones = (u & 8 != 0) + (u & 4 != 0)
-    return [(90 * (u & 3) + 2 * six + ones) % 360, u & 8 != 0, signed(d[3])]
+    return [*turning(digits(d[1])[0], d[2]), signed(d[3])]
 
 
 # Command, low digit of the second byte, name and reading of the fields.
@@ -123,6 +135,7 @@ KINDS = {
     0x53: (0, "course", course),
     0x54: (1, "time", clock),
     0x56: (1, "date", date),
+    0x84: (6, "pilot", pilot),
     0x86: (1, "key", key),
     0x89: (2, "heading", heading),
     0x99: (0, "variation", lambda d: [-signed(d[2])]),

@@ -1,5 +1,5 @@
 -- Each angle has exactly one spelling: what is spelled reads back, and what is read is spelled the same.
--- Each law is one test that antt computes over all angles, or over all digits.
+-- Each law of half and whole degrees is one test that antt computes over all angles, or over all digits.
 use mathlib.Core.Path.{_≡_, refl, ap₂}
 use mathlib.Core.Bool.{Bool, true, false, Bool·beq}
 use Prim.Native.Nat.{ℕ, _+_, _*_, _/_, _%_, _<_}
@@ -10,6 +10,7 @@ use Rattle.number.proofs.Finite.{every, at}
 use Rattle.angle.specs.declared.Digits.{Digits}
 use Rattle.angle.specs.Half.{halfAngle, halfDigits}
 use Rattle.angle.specs.Degree.{wholeAngle, turnsRight, wholeDigits}
+use Rattle.angle.specs.Quarter.{quarterAngle, quarterDigits}
 
 -- a test that holds at each digit U and each six up to 44
 atDigits : (f : ℕ → ℕ → Bool) → T (every 16 (λ u. every 45 (f u))) → (u six : ℕ) → u < 16 → six < 45 → T (f u six)
@@ -80,3 +81,14 @@ unfolding spelledBy
 whole-spells u six hu hs =
     digits (wholeDigits (wholeAngle u six) (turnsRight u)) u six (omega (arith, whole-six (wholeAngle u six) (turnsRight u))) (omega arith)
     (atDigits (spelledBy (λ v w. wholeDigits (wholeAngle v w) (turnsRight v))) tt u six hu hs)
+
+-- half degrees by quarters
+pub quarter-reads : (v : ℕ) → v < 720 → quarterAngle (quarterDigits v .quarter) (quarterDigits v .xy) ≡ v
+quarter-reads v h = omega arith
+
+pub quarter-most : (v : ℕ) → (quarterDigits v .quarter < 4) × (quarterDigits v .xy < 180)
+quarter-most v = (mod-lt (v / 180) {m = 4} (omega arith), omega arith)
+
+pub quarter-spells : (quarter xy : ℕ) → quarter < 4 → xy < 180 → quarterDigits (quarterAngle quarter xy) ≡ record { quarter = quarter; xy = xy }
+quarter-spells quarter xy hq hx =
+    ap₂ (λ (q x : ℕ). record { quarter = q; xy = x }) (omega arith) (omega arith)

@@ -1,4 +1,4 @@
--- The whole-degree angle of 9C: 90*(U&3) + 2*six + the ones among the two high bits of U, modulo 360; right when U&8
+-- The whole-degree angle of 9C and 84: 90*(U&3) + 2*six + the ones among the two high bits of U, modulo 360; right when U&8
 -- (rules 4.6).
 use Prim.Native.Nat.{ℕ, _+_, _*_, _/_, _%_}
 use mathlib.Core.Bool.{Bool, true, false}

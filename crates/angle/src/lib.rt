@@ -1,13 +1,21 @@
-// Compass angles and their spelling on the bus: half degrees (53, 89) and whole degrees with the turning way (9C).
+// Compass angles and their spelling on the bus: half degrees (53, 89), whole degrees with the turning way (9C, 84), and half
+// degrees by quarters (89, 84).
 ghost use mathlib.Core.Path.{_≡_};
 ghost use Rattle.angle.specs.Half.{halfAngle, halfDigits};
 ghost use Rattle.angle.specs.Degree.{wholeAngle, turnsRight, wholeDigits, digitsFrom};
+ghost use Rattle.angle.specs.Quarter.{quarterAngle, quarterDigits};
 ghost use Prim.Native.Nat.{_≤_};
 
 // The digit U and the six low bits of VW that spell an angle.
 pub struct Digits {
     pub u: u8,
     pub six: u8,
+}
+
+// The two high bits of VW, and XY, that spell half degrees by quarters.
+pub struct Quarter {
+    pub quarter: u8,
+    pub xy: u8,
 }
 
 // The half degrees that U and six spell.
@@ -59,5 +67,22 @@ fn digits_from(degrees: u32, high: u8) -> Digits
     Digits {
         u: (degrees / 90 % 4 + 4 * (degrees % 2)) as u8 + high,
         six: (degrees % 90 / 2) as u8,
+    }
+}
+
+// The half degrees that a quarter and XY spell.
+pub fn quarter_angle(quarter: u8, xy: u8) -> u32
+    ensures { λ r. ⌜ r ≡ quarterAngle quarter xy ⌝ }
+{
+    180 * (quarter as u32) + xy as u32
+}
+
+// The spelling of half degrees by quarters.
+pub fn quarter_digits(halves: u32) -> Quarter
+    ensures { λ r. ⌜ r ≡ quarterDigits halves ⌝ }
+{
+    Quarter {
+        quarter: (halves / 180 % 4) as u8,
+        xy: (halves % 180) as u8,
     }
 }

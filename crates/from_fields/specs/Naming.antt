@@ -12,7 +12,7 @@ use Rattle.datagram.specs.Refusals.{unknownCommand, wrongLength, outOfRange}
 use Rattle.message.specs.declared.Kind.{Kind}
 use Rattle.message.specs.declared.Kind.the-variants as kind
 use Rattle.message.specs.declared.Message.{Message}
-use Rattle.message.specs.declared.Message.the-variants.{Depth, WindAngle, WindSpeed, Speed, Trip, Total, Logs, Speeds, Water, Lamp, Latitude, Longitude, Ground, Course, Time, Date, Key, Heading, Variation, Turn}
+use Rattle.message.specs.declared.Message.the-variants.{Depth, WindAngle, WindSpeed, Speed, Trip, Total, Logs, Speeds, Water, Lamp, Latitude, Longitude, Ground, Course, Time, Date, Pilot, Key, Heading, Variation, Turn}
 use Rattle.message.specs.declared.Lookup.{Lookup}
 use Rattle.message.specs.declared.Lookup.the-variants.{Found, Unknown}
 use Rattle.message.specs.declared.Verdict.{Verdict}
@@ -53,6 +53,7 @@ countOf kind.Ground = 1
 countOf kind.Course = 1
 countOf kind.Time = 3
 countOf kind.Date = 3
+countOf kind.Pilot = 11
 countOf kind.Key = 2
 countOf kind.Heading = 3
 countOf kind.Variation = 1
@@ -76,6 +77,7 @@ flagsOf kind.Ground = []
 flagsOf kind.Course = []
 flagsOf kind.Time = []
 flagsOf kind.Date = []
+flagsOf kind.Pilot = 2 ∷ 4 ∷ 5 ∷ 6 ∷ 7 ∷ 8 ∷ []
 flagsOf kind.Key = []
 flagsOf kind.Heading = 3 ∷ []
 flagsOf kind.Variation = []
@@ -99,6 +101,8 @@ messageOf kind.Ground zs = Ground (natural zs 0)
 messageOf kind.Course zs = Course (natural zs 0)
 messageOf kind.Time zs = Time (natural zs 0) (natural zs 1) (natural zs 2)
 messageOf kind.Date zs = Date (natural zs 0) (natural zs 1) (natural zs 2)
+messageOf kind.Pilot zs =
+    Pilot (natural zs 0) (on zs 1) (natural zs 2) (on zs 3) (on zs 4) (on zs 5) (on zs 6) (on zs 7) (signed zs 8) (natural zs 9) (natural zs 10)
 messageOf kind.Key zs = Key (natural zs 0) (natural zs 1)
 messageOf kind.Heading zs = Heading (natural zs 0) (natural zs 1) (on zs 2)
 messageOf kind.Variation zs = Variation (signed zs 0)

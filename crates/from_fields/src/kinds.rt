@@ -5,7 +5,9 @@ use crate::numbers::signed_at;
 use message::Kind;
 use message::Message;
 ghost use mathlib.Core.Path.{_≡_};
+ghost use mathlib.Core.Bool.{cond};
 ghost use Prim.Native.Nat.{_-_, _≤_};
+ghost use lib.Dec.{eqb};
 ghost use Rattle.from_fields.specs.Numbers.{numbersOf};
 ghost use Rattle.from_fields.specs.Naming.{countOf, flagsOf, badFlag, messageOf, fieldsFrom};
 
@@ -30,6 +32,7 @@ pub fn count_of(kind: Kind) -> u8
         Kind::Course => 1,
         Kind::Time => 3,
         Kind::Date => 3,
+        Kind::Pilot => 11,
         Kind::Key => 2,
         Kind::Heading => 3,
         Kind::Variation => 1,
@@ -50,6 +53,13 @@ fn first_bad(fields: &[u8], from: u8, end: u8) -> u8
         k += 1;
     }
     0
+}
+
+// The first bad flag of two stretches, each given by its first; 0 where neither has one.
+fn first_flag(first: u8, later: u8) -> u8
+    ensures { λ r. ⌜ r ≡ cond (eqb first 0) later first ⌝ }
+{
+    if first == 0 { later } else { first }
 }
 
 // The kind's first bad flag, counted from 1; 0 where there is none.
@@ -73,6 +83,7 @@ pub fn bad_flag(kind: Kind, fields: &[u8]) -> u8
         Kind::Course => 0,
         Kind::Time => 0,
         Kind::Date => 0,
+        Kind::Pilot => first_flag(first_bad(fields, 2, 3), first_bad(fields, 4, 9)),
         Kind::Key => 0,
         Kind::Heading => first_bad(fields, 3, 4),
         Kind::Variation => 0,
@@ -151,6 +162,19 @@ pub fn of_kind(kind: Kind, fields: &[u8]) -> Message
             month: natural_at(fields, 0),
             day: natural_at(fields, 1),
             year: natural_at(fields, 2),
+        },
+        Kind::Pilot => Message::Pilot {
+            degrees: natural_at(fields, 0),
+            right: on_at(fields, 1),
+            course: natural_at(fields, 2),
+            auto: on_at(fields, 3),
+            vane: on_at(fields, 4),
+            track: on_at(fields, 5),
+            off_course: on_at(fields, 6),
+            wind_shift: on_at(fields, 7),
+            rudder: signed_at(fields, 8),
+            ss: natural_at(fields, 9),
+            tt: natural_at(fields, 10),
         },
         Kind::Key => Message::Key {
             source: natural_at(fields, 0),

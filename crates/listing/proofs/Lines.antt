@@ -5,7 +5,7 @@ use lib.ListN.{length, length-append}
 use Rattle.message.specs.declared.Kind.{Kind}
 use Rattle.message.specs.declared.Kind.the-variants as kind
 use Rattle.message.specs.declared.Message.{Message}
-use Rattle.message.specs.declared.Message.the-variants.{Depth, WindAngle, WindSpeed, Speed, Trip, Total, Logs, Speeds, Water, Lamp, Latitude, Longitude, Ground, Course, Time, Date, Key, Heading, Variation, Turn}
+use Rattle.message.specs.declared.Message.the-variants.{Depth, WindAngle, WindSpeed, Speed, Trip, Total, Logs, Speeds, Water, Lamp, Latitude, Longitude, Ground, Course, Time, Date, Pilot, Key, Heading, Variation, Turn}
 use Rattle.message.specs.declared.Reading.{Reading}
 use Rattle.message.specs.declared.Reading.the-variants.{Read, Refused}
 use Rattle.message.specs.Fields.{kindOf, fieldsOf}
@@ -35,12 +35,13 @@ name-most kind.Ground = omega arith
 name-most kind.Course = omega arith
 name-most kind.Time = omega arith
 name-most kind.Date = omega arith
+name-most kind.Pilot = omega arith
 name-most kind.Key = omega arith
 name-most kind.Heading = omega arith
 name-most kind.Variation = omega arith
 name-most kind.Turn = omega arith
 
-fields-most : (m : Message) → length (fieldsOf m) ≤ 6
+fields-most : (m : Message) → length (fieldsOf m) ≤ 11
 unfolding fieldsOf
 fields-most (Depth tenths anchor metric defective deep shallow) = omega arith
 fields-most (WindAngle halves) = omega arith
@@ -58,12 +59,13 @@ fields-most (Ground tenths) = omega arith
 fields-most (Course halves) = omega arith
 fields-most (Time hours minutes seconds) = omega arith
 fields-most (Date month day year) = omega arith
+fields-most (Pilot degrees right course auto vane track offCourse windShift rudder ss tt) = omega arith
 fields-most (Key source code) = omega arith
 fields-most (Heading halves reference locked) = omega arith
 fields-most (Variation east) = omega arith
 fields-most (Turn degrees right rudder) = omega arith
 
-pub content-most : (reading : Reading) → length (contentOf reading) ≤ 142
+pub content-most : (reading : Reading) → length (contentOf reading) ≤ 252
 content-most (Read m) =
     omega (arith, label-length (nameOf (kindOf m)) (fieldsOf m), name-most (kindOf m), fields-most m)
 content-most (Refused r) = omega (arith, decimal-most (r .number))

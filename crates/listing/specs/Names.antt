@@ -2,7 +2,7 @@
 use Prim.Native.Nat.{ℕ}
 use mathlib.Core.List.{List}
 use Rattle.message.specs.declared.Kind.{Kind}
-use Rattle.message.specs.declared.Kind.the-variants.{Depth, WindAngle, WindSpeed, Speed, Trip, Total, Logs, Speeds, Water, Lamp, Latitude, Longitude, Ground, Course, Time, Date, Key, Heading, Variation, Turn}
+use Rattle.message.specs.declared.Kind.the-variants.{Depth, WindAngle, WindSpeed, Speed, Trip, Total, Logs, Speeds, Water, Lamp, Latitude, Longitude, Ground, Course, Time, Date, Pilot, Key, Heading, Variation, Turn}
 use Rattle.listing.specs.Text.{ascii}
 
 abbrev pub nameOf : Kind → List ℕ
@@ -22,6 +22,7 @@ nameOf Ground = ascii "ground"
 nameOf Course = ascii "course"
 nameOf Time = ascii "time"
 nameOf Date = ascii "date"
+nameOf Pilot = ascii "pilot"
 nameOf Key = ascii "key"
 nameOf Heading = ascii "heading"
 nameOf Variation = ascii "variation"

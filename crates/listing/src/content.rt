@@ -17,7 +17,7 @@ ghost use Rattle.listing.specs.Line.{messageText, contentOf};
 
 // Puts what any bytes say.
 pub fn put_content(pairs: &[u8; 712], out: &mut [u8], at: usize, bytes: &[u8]) -> usize
-    requires { ⌜ (now pairs ≡ digitPairs) × (at + 160 ≤ length (now out)) ⌝ }
+    requires { ⌜ (now pairs ≡ digitPairs) × (at + 260 ≤ length (now out)) ⌝ }
     ensures { λ r. ⌜ Put (now (out .entry)) at (contentOf (readOf (now (bytes .entry)))) (now (out .exit)) r ⌝ }
 {
     if !datagram::is_whole(bytes) {
@@ -35,7 +35,7 @@ pub fn put_content(pairs: &[u8; 712], out: &mut [u8], at: usize, bytes: &[u8]) -
 // Puts what bytes say as a datagram of this kind. One jump goes by the kind; behind it the compiler knows the kind, and the
 // fields stay in registers from the bytes to the text.
 fn put_kind(pairs: &[u8; 712], out: &mut [u8], at: usize, kind: Kind, bytes: &[u8]) -> usize
-    requires { ⌜ (now pairs ≡ digitPairs) × (at + 160 ≤ length (now out)) ⌝ }
+    requires { ⌜ (now pairs ≡ digitPairs) × (at + 260 ≤ length (now out)) ⌝ }
     ensures { λ r. ⌜ Put (now (out .entry)) at (contentOf (readOfKind kind (now (bytes .entry)))) (now (out .exit)) r ⌝ }
 {
     match kind {
@@ -55,6 +55,7 @@ fn put_kind(pairs: &[u8; 712], out: &mut [u8], at: usize, kind: Kind, bytes: &[u
         Kind::Course => put_reading(pairs, out, at, reader::read_of(Kind::Course, bytes)),
         Kind::Time => put_reading(pairs, out, at, reader::read_of(Kind::Time, bytes)),
         Kind::Date => put_reading(pairs, out, at, reader::read_of(Kind::Date, bytes)),
+        Kind::Pilot => put_reading(pairs, out, at, reader::read_of(Kind::Pilot, bytes)),
         Kind::Key => put_reading(pairs, out, at, reader::read_of(Kind::Key, bytes)),
         Kind::Heading => put_reading(pairs, out, at, reader::read_of(Kind::Heading, bytes)),
         Kind::Variation => put_reading(pairs, out, at, reader::read_of(Kind::Variation, bytes)),
@@ -64,7 +65,7 @@ fn put_kind(pairs: &[u8; 712], out: &mut [u8], at: usize, kind: Kind, bytes: &[u
 
 // Puts a message, or what refused a datagram.
 fn put_reading(pairs: &[u8; 712], out: &mut [u8], at: usize, reading: Reading) -> usize
-    requires { ⌜ (now pairs ≡ digitPairs) × (at + 160 ≤ length (now out)) ⌝ }
+    requires { ⌜ (now pairs ≡ digitPairs) × (at + 260 ≤ length (now out)) ⌝ }
     ensures { λ r. ⌜ Put (now (out .entry)) at (contentOf reading) (now (out .exit)) r ⌝ }
 {
     match reading {
@@ -75,7 +76,7 @@ fn put_reading(pairs: &[u8; 712], out: &mut [u8], at: usize, reading: Reading) -
 
 // Puts the name of a message's kind, and its fields in table order.
 fn put_message(pairs: &[u8; 712], out: &mut [u8], at: usize, m: Message) -> usize
-    requires { ⌜ (now pairs ≡ digitPairs) × (at + 160 ≤ length (now out)) ⌝ }
+    requires { ⌜ (now pairs ≡ digitPairs) × (at + 260 ≤ length (now out)) ⌝ }
     ensures { λ r. ⌜ Put (now (out .entry)) at (messageText m) (now (out .exit)) r ⌝ }
 {
     match m {
@@ -155,6 +156,35 @@ fn put_message(pairs: &[u8; 712], out: &mut [u8], at: usize, m: Message) -> usiz
             month,
             day,
             year,
+        ),
+        Message::Pilot {
+            degrees,
+            right,
+            course,
+            auto,
+            vane,
+            track,
+            off_course,
+            wind_shift,
+            rudder,
+            ss,
+            tt,
+        } => shapes::pilot(
+            pairs,
+            out,
+            at,
+            b" pilot",
+            degrees,
+            right,
+            course,
+            auto,
+            vane,
+            track,
+            off_course,
+            wind_shift,
+            rudder,
+            ss,
+            tt,
         ),
         Message::Key { source, code } => shapes::two(pairs, out, at, b" key", source, code),
         Message::Heading {

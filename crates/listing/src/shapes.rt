@@ -153,3 +153,31 @@ pub fn flag_signed(
     let p = flagged(pairs, out, at, label, a, on);
     put_signed(pairs, out, p, z)
 }
+
+// A field and a flag, a field and five flags, a field of either sign, and two fields.
+pub fn pilot(
+    pairs: &[u8; 712],
+    out: &mut [u8],
+    at: usize,
+    label: &[u8],
+    a: u32,
+    b: bool,
+    c: u32,
+    d: bool,
+    e: bool,
+    f: bool,
+    g: bool,
+    h: bool,
+    i: i32,
+    j: u32,
+    k: u32,
+) -> usize
+    requires { ⌜ (now pairs ≡ digitPairs) × (length (now label) ≤ 10) × (at + 260 ≤ length (now out)) ⌝ }
+    ensures { λ r. ⌜ Put (now (out .entry)) at (now (label .entry) ++ spacedNumbers (pos a ∷ pos (num b) ∷ pos c ∷ pos (num d) ∷ pos (num e) ∷ pos (num f) ∷ pos (num g) ∷ pos (num h) ∷ i ∷ pos j ∷ pos k ∷ [])) (now (out .exit)) r ⌝ }
+{
+    let p = flagged(pairs, out, at, label, a, b);
+    let q = five_flags(pairs, out, p, b"", c, d, e, f, g, h);
+    let s = put_signed(pairs, out, q, i);
+    let t = put_number(pairs, out, s, j);
+    put_number(pairs, out, t, k)
+}

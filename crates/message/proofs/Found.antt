@@ -31,7 +31,7 @@ of-found {P} (_and_ {r = r} {rs = rs} here later) command row e = go (eqb (r .co
 own-rows : Each (λ row. rowOf (row .kind) ≡ row) kinds
 unfolding kinds
 own-rows =
-    refl and refl and refl and refl and refl and refl and refl and refl and refl and refl and refl and refl and refl and refl and refl and refl and refl and refl and refl and refl and end
+    refl and refl and refl and refl and refl and refl and refl and refl and refl and refl and refl and refl and refl and refl and refl and refl and refl and refl and refl and refl and refl and end
 
 pub found-row : (command : ℕ) (row : Row) → findOf command ≡ Found row → (row .command ≡ command) × (rowOf (row .kind) ≡ row)
 unfolding findOf

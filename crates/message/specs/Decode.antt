@@ -9,9 +9,10 @@ use Rattle.datagram.specs.Refusals.{outOfRange, badRepeat}
 use Rattle.number.specs.Word.{word, bit}
 use Rattle.angle.specs.Half.{halfAngle}
 use Rattle.angle.specs.Degree.{wholeAngle, turnsRight}
+use Rattle.angle.specs.Quarter.{quarterAngle}
 use Rattle.message.specs.declared.Reading.{Reading}
 use Rattle.message.specs.declared.Reading.the-variants.{Read, Refused}
-use Rattle.message.specs.declared.Message.the-variants.{Depth, WindAngle, WindSpeed, Speed, Trip, Total, Logs, Speeds, Water, Lamp, Latitude, Longitude, Ground, Course, Time, Date, Key, Heading, Variation, Turn}
+use Rattle.message.specs.declared.Message.the-variants.{Depth, WindAngle, WindSpeed, Speed, Trip, Total, Logs, Speeds, Water, Lamp, Latitude, Longitude, Ground, Course, Time, Date, Pilot, Key, Heading, Variation, Turn}
 
 -- the six low bits of VW
 abbrev pub sixOf : ℕ → ℕ
@@ -85,6 +86,14 @@ timeOf t1 rs hh = Read (Time hh (rs / 4) (rs % 4 * 16 + t1 / 16))
 abbrev pub dateOf : ℕ → ℕ → ℕ → Reading
 dateOf m1 dd yy = Read (Date (m1 / 16) dd yy)
 
+-- 84 U6 VW XY 0Z 0M RR SS TT
+abbrev pub pilotOf : ℕ → ℕ → ℕ → ℕ → ℕ → ℕ → ℕ → ℕ → Reading
+pilotOf u6 vw xy z m rr ss tt =
+    spelled 1 (leb (sixOf vw) 44)
+    (spelled 3 (leb xy 179)
+    (Read (Pilot (wholeAngle (u6 / 16) (sixOf vw)) (turnsRight (u6 / 16)) (quarterAngle (vw / 64) xy)
+    (bit 2 z) (bit 4 z) (bit 8 z) (bit 4 m) (bit 8 m) (toZ w8 rr) ss tt)))
+
 -- 86 X1 YY yy, the two summing to 255
 abbrev pub keyOf : ℕ → ℕ → ℕ → Reading
 keyOf x1 code repeat = cond (eqb (code + repeat) 255) (Read (Key (x1 / 16) code)) (Refused badRepeat)
@@ -93,7 +102,7 @@ keyOf x1 code repeat = cond (eqb (code + repeat) 255) (Read (Key (x1 / 16) code)
 abbrev pub headingOf : ℕ → ℕ → ℕ → ℕ → Reading
 headingOf u2 vw xy z =
     spelled 1 (leb (sixOf vw) 44)
-    (spelled 2 (leb xy 179) (Read (Heading (halfAngle (u2 / 16) (sixOf vw)) (180 * (vw / 64) + xy) (bit 2 z))))
+    (spelled 2 (leb xy 179) (Read (Heading (halfAngle (u2 / 16) (sixOf vw)) (quarterAngle (vw / 64) xy) (bit 2 z))))
 
 -- 99 00 XX, minus the signed XX
 abbrev pub variationOf : ℕ → Reading

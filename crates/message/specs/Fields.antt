@@ -7,7 +7,7 @@ use Rattle.number.specs.Word.{num}
 use Rattle.message.specs.declared.Kind.{Kind}
 use Rattle.message.specs.declared.Kind.the-variants as kind
 use Rattle.message.specs.declared.Message.{Message}
-use Rattle.message.specs.declared.Message.the-variants.{Depth, WindAngle, WindSpeed, Speed, Trip, Total, Logs, Speeds, Water, Lamp, Latitude, Longitude, Ground, Course, Time, Date, Key, Heading, Variation, Turn}
+use Rattle.message.specs.declared.Message.the-variants.{Depth, WindAngle, WindSpeed, Speed, Trip, Total, Logs, Speeds, Water, Lamp, Latitude, Longitude, Ground, Course, Time, Date, Pilot, Key, Heading, Variation, Turn}
 use Rattle.message.specs.Table.{rowOf}
 
 abbrev flag : Bool → ℤ
@@ -30,6 +30,7 @@ kindOf (Ground tenths) = kind.Ground
 kindOf (Course halves) = kind.Course
 kindOf (Time hours minutes seconds) = kind.Time
 kindOf (Date month day year) = kind.Date
+kindOf (Pilot degrees right course auto vane track offCourse windShift rudder ss tt) = kind.Pilot
 kindOf (Key source code) = kind.Key
 kindOf (Heading halves reference locked) = kind.Heading
 kindOf (Variation east) = kind.Variation
@@ -58,6 +59,9 @@ fieldsOf (Ground tenths) = pos tenths ∷ []
 fieldsOf (Course halves) = pos halves ∷ []
 fieldsOf (Time hours minutes seconds) = pos hours ∷ pos minutes ∷ pos seconds ∷ []
 fieldsOf (Date month day year) = pos month ∷ pos day ∷ pos year ∷ []
+fieldsOf (Pilot degrees right course auto vane track offCourse windShift rudder ss tt) =
+    pos degrees ∷ flag right ∷ pos course ∷ flag auto ∷ flag vane ∷ flag track ∷ flag offCourse ∷ flag windShift ∷ rudder
+    ∷ pos ss ∷ pos tt ∷ []
 fieldsOf (Key source code) = pos source ∷ pos code ∷ []
 fieldsOf (Heading halves reference locked) = pos halves ∷ pos reference ∷ flag locked ∷ []
 fieldsOf (Variation east) = east ∷ []

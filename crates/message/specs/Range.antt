@@ -8,7 +8,7 @@ use Rattle.datagram.specs.Refusals.{outOfRange}
 use Rattle.message.specs.declared.Verdict.{Verdict}
 use Rattle.message.specs.declared.Verdict.the-variants.{InRange, Refused}
 use Rattle.message.specs.declared.Message.{Message}
-use Rattle.message.specs.declared.Message.the-variants.{Depth, WindAngle, WindSpeed, Speed, Trip, Total, Logs, Speeds, Water, Lamp, Latitude, Longitude, Ground, Course, Time, Date, Key, Heading, Variation, Turn}
+use Rattle.message.specs.declared.Message.the-variants.{Depth, WindAngle, WindSpeed, Speed, Trip, Total, Logs, Speeds, Water, Lamp, Latitude, Longitude, Ground, Course, Time, Date, Pilot, Key, Heading, Variation, Turn}
 
 -- field k, counted from 1, is at most the limit
 abbrev pub atMost : ℕ → ℕ → ℕ → Verdict
@@ -44,6 +44,10 @@ rangeOf (Ground tenths) = atMost 1 65535 tenths
 rangeOf (Course halves) = atMost 1 719 halves
 rangeOf (Time hours minutes seconds) = andThen (atMost 1 23 hours) (andThen (atMost 2 59 minutes) (atMost 3 59 seconds))
 rangeOf (Date month day year) = andThen (fromOne 1 12 month) (andThen (fromOne 2 31 day) (atMost 3 99 year))
+rangeOf (Pilot degrees right course auto vane track offCourse windShift rudder ss tt) =
+    andThen (atMost 1 359 degrees)
+    (andThen (atMost 3 719 course)
+    (andThen (within 9 (negℤ (pos 128)) (pos 127) rudder) (andThen (atMost 10 255 ss) (atMost 11 255 tt))))
 rangeOf (Key source code) = andThen (atMost 1 15 source) (atMost 2 255 code)
 rangeOf (Heading halves reference locked) = andThen (atMost 1 719 halves) (atMost 2 719 reference)
 rangeOf (Variation east) = within 1 (negℤ (pos 127)) (pos 128) east

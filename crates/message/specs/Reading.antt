@@ -7,7 +7,7 @@ use lib.ListN.{length, getD}
 use Rattle.datagram.specs.Refusals.{notWhole, unknownCommand, wrongLength}
 use Rattle.datagram.specs.Whole.{whole}
 use Rattle.message.specs.declared.Kind.{Kind}
-use Rattle.message.specs.declared.Kind.the-variants.{Depth, WindAngle, WindSpeed, Speed, Trip, Total, Logs, Speeds, Water, Lamp, Latitude, Longitude, Ground, Course, Time, Date, Key, Heading, Variation, Turn}
+use Rattle.message.specs.declared.Kind.the-variants.{Depth, WindAngle, WindSpeed, Speed, Trip, Total, Logs, Speeds, Water, Lamp, Latitude, Longitude, Ground, Course, Time, Date, Pilot, Key, Heading, Variation, Turn}
 use Rattle.message.specs.declared.Message.{Message}
 use Rattle.message.specs.declared.Reading.{Reading}
 use Rattle.message.specs.declared.Reading.the-variants.{Read, Refused}
@@ -17,7 +17,7 @@ use Rattle.message.specs.declared.Lookup.{Lookup}
 use Rattle.message.specs.declared.Lookup.the-variants.{Found, Unknown}
 use Rattle.message.specs.Table.{findOf}
 use Rattle.message.specs.Range.{rangeOf}
-use Rattle.message.specs.Decode.{depthOf, windAngleOf, windSpeedOf, speedOf, tripOf, totalOf, logsOf, speedsOf, waterOf, lampOf, latitudeOf, longitudeOf, groundOf, courseOf, timeOf, dateOf, keyOf, headingOf, variationOf, turnOf}
+use Rattle.message.specs.Decode.{depthOf, windAngleOf, windSpeedOf, speedOf, tripOf, totalOf, logsOf, speedsOf, waterOf, lampOf, latitudeOf, longitudeOf, groundOf, courseOf, timeOf, dateOf, pilotOf, keyOf, headingOf, variationOf, turnOf}
 
 -- byte i of a datagram, counted from 0
 abbrev pub byte : List ℕ → ℕ → ℕ
@@ -41,6 +41,7 @@ readKind Ground s = groundOf (byte s 2) (byte s 3)
 readKind Course s = courseOf (byte s 1) (byte s 2)
 readKind Time s = timeOf (byte s 1) (byte s 2) (byte s 3)
 readKind Date s = dateOf (byte s 1) (byte s 2) (byte s 3)
+readKind Pilot s = pilotOf (byte s 1) (byte s 2) (byte s 3) (byte s 4) (byte s 5) (byte s 6) (byte s 7) (byte s 8)
 readKind Key s = keyOf (byte s 1) (byte s 2) (byte s 3)
 readKind Heading s = headingOf (byte s 1) (byte s 2) (byte s 3) (byte s 4)
 readKind Variation s = variationOf (byte s 2)

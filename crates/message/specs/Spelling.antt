@@ -9,8 +9,9 @@ use Rattle.datagram.specs.Whole.{symbols}
 use Rattle.number.specs.Word.{lowByte, highByte, num}
 use Rattle.angle.specs.Half.{halfDigits}
 use Rattle.angle.specs.Degree.{wholeDigits}
+use Rattle.angle.specs.Quarter.{quarterDigits}
 use Rattle.message.specs.declared.Message.{Message}
-use Rattle.message.specs.declared.Message.the-variants.{Depth, WindAngle, WindSpeed, Speed, Trip, Total, Logs, Speeds, Water, Lamp, Latitude, Longitude, Ground, Course, Time, Date, Key, Heading, Variation, Turn}
+use Rattle.message.specs.declared.Message.the-variants.{Depth, WindAngle, WindSpeed, Speed, Trip, Total, Logs, Speeds, Water, Lamp, Latitude, Longitude, Ground, Course, Time, Date, Pilot, Key, Heading, Variation, Turn}
 
 -- the digit above a word
 abbrev pub topDigit : ℕ → ℕ
@@ -87,6 +88,13 @@ timeBytes hours minutes seconds = 0x54 ∷ (16 * (seconds % 16) + 1) ∷ (4 * (m
 abbrev pub dateBytes : ℕ → ℕ → ℕ → List ℕ
 dateBytes month day year = 0x56 ∷ (16 * (month % 16) + 1) ∷ (day % 256) ∷ (year % 256) ∷ []
 
+-- 84 U6 VW XY 0Z 0M RR SS TT
+abbrev pub pilotBytes : ℕ → Bool → ℕ → Bool → Bool → Bool → Bool → Bool → ℤ → ℕ → ℕ → List ℕ
+pilotBytes degrees right course auto vane track offCourse windShift rudder ss tt =
+    0x84 ∷ (16 * wholeDigits degrees right .u + 6) ∷ (wholeDigits degrees right .six + 64 * quarterDigits course .quarter)
+    ∷ quarterDigits course .xy ∷ (2 * num auto + 4 * num vane + 8 * num track) ∷ (4 * num offCourse + 8 * num windShift)
+    ∷ (ofZ w32 rudder % 256) ∷ (ss % 256) ∷ (tt % 256) ∷ []
+
 -- 86 X1 YY yy
 abbrev pub keyBytes : ℕ → ℕ → List ℕ
 keyBytes source code = 0x86 ∷ (16 * (source % 16) + 1) ∷ (code % 256) ∷ (255 - code % 256) ∷ []
@@ -94,7 +102,8 @@ keyBytes source code = 0x86 ∷ (16 * (source % 16) + 1) ∷ (code % 256) ∷ (2
 -- 89 U2 VW XY 2Z
 abbrev pub headingBytes : ℕ → ℕ → Bool → List ℕ
 headingBytes halves reference locked =
-    0x89 ∷ (16 * halfDigits halves .u + 2) ∷ (halfDigits halves .six + 64 * (reference / 180 % 4)) ∷ (reference % 180)
+    0x89 ∷ (16 * halfDigits halves .u + 2) ∷ (halfDigits halves .six + 64 * quarterDigits reference .quarter)
+    ∷ quarterDigits reference .xy
     ∷ (0x20 + 2 * num locked) ∷ []
 
 -- 99 00 XX
@@ -123,6 +132,8 @@ bytesOf (Ground tenths) = groundBytes tenths
 bytesOf (Course halves) = courseBytes halves
 bytesOf (Time hours minutes seconds) = timeBytes hours minutes seconds
 bytesOf (Date month day year) = dateBytes month day year
+bytesOf (Pilot degrees right course auto vane track offCourse windShift rudder ss tt) =
+    pilotBytes degrees right course auto vane track offCourse windShift rudder ss tt
 bytesOf (Key source code) = keyBytes source code
 bytesOf (Heading halves reference locked) = headingBytes halves reference locked
 bytesOf (Variation east) = variationBytes east

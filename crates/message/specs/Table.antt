@@ -5,7 +5,7 @@ use mathlib.Core.List.{List, [], _∷_}
 use lib.Dec.{eqb}
 use lib.ListN.{drop}
 use Rattle.message.specs.declared.Kind.{Kind}
-use Rattle.message.specs.declared.Kind.the-variants.{Depth, WindAngle, WindSpeed, Speed, Trip, Total, Logs, Speeds, Water, Lamp, Latitude, Longitude, Ground, Course, Time, Date, Key, Heading, Variation, Turn}
+use Rattle.message.specs.declared.Kind.the-variants.{Depth, WindAngle, WindSpeed, Speed, Trip, Total, Logs, Speeds, Water, Lamp, Latitude, Longitude, Ground, Course, Time, Date, Pilot, Key, Heading, Variation, Turn}
 use Rattle.message.specs.declared.Row.{Row}
 use Rattle.message.specs.declared.Lookup.{Lookup}
 use Rattle.message.specs.declared.Lookup.the-variants.{Found, Unknown}
@@ -31,6 +31,7 @@ rowOf Ground = row 0x52 4 Ground
 rowOf Course = row 0x53 3 Course
 rowOf Time = row 0x54 4 Time
 rowOf Date = row 0x56 4 Date
+rowOf Pilot = row 0x84 9 Pilot
 rowOf Key = row 0x86 4 Key
 rowOf Heading = row 0x89 5 Heading
 rowOf Variation = row 0x99 3 Variation
@@ -54,6 +55,7 @@ kinds =
     rowOf Course ∷
     rowOf Time ∷
     rowOf Date ∷
+    rowOf Pilot ∷
     rowOf Key ∷
     rowOf Heading ∷
     rowOf Variation ∷

@@ -1,4 +1,4 @@
-// The twenty kinds of message: their fields, their table, and what a field out of range gets.
+// The kinds of message: their fields, their table, and what a field out of range gets.
 pub mod range;
 
 use datagram::Refusal;
@@ -24,6 +24,7 @@ pub enum Kind {
     Course,
     Time,
     Date,
+    Pilot,
     Key,
     Heading,
     Variation,
@@ -98,6 +99,19 @@ pub enum Message {
         month: u32,
         day: u32,
         year: u32,
+    },
+    Pilot {
+        degrees: u32,
+        right: bool,
+        course: u32,
+        auto: bool,
+        vane: bool,
+        track: bool,
+        off_course: bool,
+        wind_shift: bool,
+        rudder: i32,
+        ss: u32,
+        tt: u32,
     },
     Key {
         source: u32,
@@ -240,6 +254,12 @@ const DATE: Row = Row {
     kind: Kind::Date,
 };
 
+const PILOT: Row = Row {
+    command: 0x84,
+    length: 9,
+    kind: Kind::Pilot,
+};
+
 const KEY: Row = Row {
     command: 0x86,
     length: 4,
@@ -265,7 +285,7 @@ const TURN: Row = Row {
 };
 
 // The one table of kinds, in the order of their commands.
-pub const KINDS: [Row; 20] = [
+pub const KINDS: [Row; 21] = [
     DEPTH,
     WIND_ANGLE,
     WIND_SPEED,
@@ -282,6 +302,7 @@ pub const KINDS: [Row; 20] = [
     COURSE,
     TIME,
     DATE,
+    PILOT,
     KEY,
     HEADING,
     VARIATION,
@@ -289,26 +310,26 @@ pub const KINDS: [Row; 20] = [
 ];
 
 // The table as an array.
-fn rows() -> [Row; 20]
+fn rows() -> [Row; 21]
     ensures { λ r. ⌜ r ≡ kinds ⌝ }
 {
     KINDS
 }
 
-// The number of the table's row for a command, or 20 where there is none.
+// The number of the table's row for a command, or 21 where there is none.
 fn index_of(command: u8) -> usize
     ensures { λ r. ⌜ rowAt r ≡ findOf command ⌝ }
 {
     let table = rows();
     let mut i = 0;
-    while i < 20 {
+    while i < 21 {
         let row = table[i];
         if row.command == command {
             return i;
         }
         i += 1;
     }
-    20
+    21
 }
 
 // The row of a number. Each index is a constant, so that the compiler lays no table out in memory: of the search and this
@@ -338,6 +359,7 @@ fn row_at(index: usize) -> Lookup
         17 => Lookup::Found(table[17]),
         18 => Lookup::Found(table[18]),
         19 => Lookup::Found(table[19]),
+        20 => Lookup::Found(table[20]),
         _ => Lookup::Unknown,
     }
 }
@@ -370,6 +392,7 @@ pub fn row_of(kind: Kind) -> Row
         Kind::Course => COURSE,
         Kind::Time => TIME,
         Kind::Date => DATE,
+        Kind::Pilot => PILOT,
         Kind::Key => KEY,
         Kind::Heading => HEADING,
         Kind::Variation => VARIATION,
@@ -398,6 +421,7 @@ pub fn kind_of(m: Message) -> Kind
         Message::Course { .. } => Kind::Course,
         Message::Time { .. } => Kind::Time,
         Message::Date { .. } => Kind::Date,
+        Message::Pilot { .. } => Kind::Pilot,
         Message::Key { .. } => Kind::Key,
         Message::Heading { .. } => Kind::Heading,
         Message::Variation { .. } => Kind::Variation,

@@ -91,6 +91,23 @@ pub fn range_of(m: Message) -> Verdict
             from_one(1, 12, month),
             first_of(from_one(2, 31, day), at_most(3, 99, year)),
         ),
+        Message::Pilot {
+            degrees,
+            course,
+            rudder,
+            ss,
+            tt,
+            ..
+        } => first_of(
+            at_most(1, 359, degrees),
+            first_of(
+                at_most(3, 719, course),
+                first_of(
+                    in_bounds(9, -128, 127, rudder),
+                    first_of(at_most(10, 255, ss), at_most(11, 255, tt)),
+                ),
+            ),
+        ),
         Message::Key { source, code } => first_of(at_most(1, 15, source), at_most(2, 255, code)),
         Message::Heading {
             halves,

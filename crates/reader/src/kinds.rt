@@ -1,6 +1,7 @@
 // Each kind's bytes, named by the letters of rules 4.3, as a message whose fields are in range. Where no test is made the
 // bytes cannot spell a field out of range.
 use angle::half_angle;
+use angle::quarter_angle;
 use angle::turns_right;
 use angle::whole_angle;
 use datagram::refusals::BAD_REPEAT;
@@ -13,7 +14,7 @@ use number::negated_byte;
 use number::signed_byte;
 use number::word_of;
 ghost use mathlib.Core.Path.{_≡_};
-ghost use Rattle.message.specs.Decode.{depthOf, windAngleOf, windSpeedOf, speedOf, tripOf, totalOf, logsOf, speedsOf, waterOf, lampOf, latitudeOf, longitudeOf, groundOf, courseOf, timeOf, dateOf, keyOf, headingOf, variationOf, turnOf};
+ghost use Rattle.message.specs.Decode.{depthOf, windAngleOf, windSpeedOf, speedOf, tripOf, totalOf, logsOf, speedsOf, waterOf, lampOf, latitudeOf, longitudeOf, groundOf, courseOf, timeOf, dateOf, pilotOf, keyOf, headingOf, variationOf, turnOf, sixOf};
 ghost use Rattle.message.specs.Range.{atMost, andThen};
 ghost use Rattle.message.specs.Reading.{judged};
 
@@ -226,6 +227,40 @@ pub fn date(m1: u8, dd: u8, yy: u8) -> Reading
     })
 }
 
+pub fn pilot(u6: u8, vw: u8, xy: u8, z: u8, m: u8, rr: u8, ss: u8, tt: u8) -> Reading
+    ensures { λ r. ⌜ r ≡ judged (pilotOf u6 vw xy z m rr ss tt) ⌝ }
+{
+    match angles_spelled(3, vw, xy) {
+        Verdict::InRange => Reading::Read(Message::Pilot {
+            degrees: whole_angle(u6 / 16, vw % 64),
+            right: turns_right(u6 / 16),
+            course: quarter_angle(vw / 64, xy),
+            auto: z / 2 % 2 == 1,
+            vane: z / 4 % 2 == 1,
+            track: z / 8 % 2 == 1,
+            off_course: m / 4 % 2 == 1,
+            wind_shift: m / 8 % 2 == 1,
+            rudder: signed_byte(rr),
+            ss: ss as u32,
+            tt: tt as u32,
+        }),
+        Verdict::Refused(r) => Reading::Refused(r),
+    }
+}
+
+// Whether the six low bits of VW spell an angle, field 1, and XY half degrees within a quarter, the field of this number.
+fn angles_spelled(field: u8, vw: u8, xy: u8) -> Verdict
+    ensures { λ r. ⌜ r ≡ andThen (atMost 1 44 (sixOf vw)) (atMost field 179 xy) ⌝ }
+{
+    if 44 < vw % 64 {
+        return Verdict::Refused(out_of_range(1));
+    }
+    if 179 < xy {
+        return Verdict::Refused(out_of_range(field));
+    }
+    Verdict::InRange
+}
+
 pub fn key(x1: u8, code: u8, repeat: u8) -> Reading
     ensures { λ r. ⌜ r ≡ judged (keyOf x1 code repeat) ⌝ }
 {
@@ -242,17 +277,14 @@ pub fn key(x1: u8, code: u8, repeat: u8) -> Reading
 pub fn heading(u2: u8, vw: u8, xy: u8, z: u8) -> Reading
     ensures { λ r. ⌜ r ≡ judged (headingOf u2 vw xy z) ⌝ }
 {
-    if 44 < vw % 64 {
-        return Reading::Refused(out_of_range(1));
+    match angles_spelled(2, vw, xy) {
+        Verdict::InRange => Reading::Read(Message::Heading {
+            halves: half_angle(u2 / 16, vw % 64),
+            reference: quarter_angle(vw / 64, xy),
+            locked: z / 2 % 2 == 1,
+        }),
+        Verdict::Refused(r) => Reading::Refused(r),
     }
-    if 179 < xy {
-        return Reading::Refused(out_of_range(2));
-    }
-    Reading::Read(Message::Heading {
-        halves: half_angle(u2 / 16, vw % 64),
-        reference: 180 * (vw as u32 / 64) + xy as u32,
-        locked: z / 2 % 2 == 1,
-    })
 }
 
 pub fn variation(xx: u8) -> Reading

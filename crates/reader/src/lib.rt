@@ -107,6 +107,16 @@ fn read_kind(kind: Kind, bytes: &[u8]) -> Reading
         Kind::Course => kinds::course(byte_at(bytes, 1), byte_at(bytes, 2)),
         Kind::Time => kinds::time(byte_at(bytes, 1), byte_at(bytes, 2), byte_at(bytes, 3)),
         Kind::Date => kinds::date(byte_at(bytes, 1), byte_at(bytes, 2), byte_at(bytes, 3)),
+        Kind::Pilot => kinds::pilot(
+            byte_at(bytes, 1),
+            byte_at(bytes, 2),
+            byte_at(bytes, 3),
+            byte_at(bytes, 4),
+            byte_at(bytes, 5),
+            byte_at(bytes, 6),
+            byte_at(bytes, 7),
+            byte_at(bytes, 8),
+        ),
         Kind::Key => kinds::key(byte_at(bytes, 1), byte_at(bytes, 2), byte_at(bytes, 3)),
         Kind::Heading => kinds::heading(
             byte_at(bytes, 1),

@@ -7,9 +7,9 @@ use borrow.Author.Tests.{eq-eqb}
 use Rattle.datagram.specs.Whole.{whole, allBytes}
 use Rattle.angle.specs.Half.{halfDigits}
 use Rattle.angle.specs.Degree.{wholeDigits}
-use Rattle.angle.proofs.Laws.{half-u, half-six, whole-u, whole-six}
+use Rattle.angle.proofs.Laws.{half-u, half-six, whole-u, whole-six, quarter-most}
 use Rattle.message.specs.declared.Message.{Message}
-use Rattle.message.specs.declared.Message.the-variants.{Depth, WindAngle, WindSpeed, Speed, Trip, Total, Logs, Speeds, Water, Lamp, Latitude, Longitude, Ground, Course, Time, Date, Key, Heading, Variation, Turn}
+use Rattle.message.specs.declared.Message.the-variants.{Depth, WindAngle, WindSpeed, Speed, Trip, Total, Logs, Speeds, Water, Lamp, Latitude, Longitude, Ground, Course, Time, Date, Pilot, Key, Heading, Variation, Turn}
 use Rattle.message.specs.Spelling.{bytesOf, topDigit}
 use Rattle.roundtrip_laws.proofs.Lists.{num-small, Below, below-bytes}
 
@@ -31,6 +31,8 @@ whole-datagram (Ground tenths) = refl
 whole-datagram (Course halves) = eq-eqb 3 (3 + (16 * halfDigits halves .u) % 16) (omega arith)
 whole-datagram (Time hours minutes seconds) = eq-eqb 4 (3 + (16 * (seconds % 16) + 1) % 16) (omega arith)
 whole-datagram (Date month day year) = eq-eqb 4 (3 + (16 * (month % 16) + 1) % 16) (omega arith)
+whole-datagram (Pilot degrees right course auto vane track offCourse windShift rudder ss tt) =
+    eq-eqb 9 (3 + (16 * wholeDigits degrees right .u + 6) % 16) (omega arith)
 whole-datagram (Key source code) = eq-eqb 4 (3 + (16 * (source % 16) + 1) % 16) (omega arith)
 whole-datagram (Heading halves reference locked) = eq-eqb 5 (3 + (16 * halfDigits halves .u + 2) % 16) (omega arith)
 whole-datagram (Variation east) = refl
@@ -55,8 +57,20 @@ below (Ground tenths) = omega arith
 below (Course halves) = omega (arith, half-u halves, half-six halves)
 below (Time hours minutes seconds) = omega arith
 below (Date month day year) = omega arith
+below (Pilot degrees right course auto vane track offCourse windShift rudder ss tt) =
+    omega (
+      arith,
+      whole-u degrees right,
+      whole-six degrees right,
+      quarter-most course,
+      num-small auto,
+      num-small vane,
+      num-small track,
+      num-small offCourse,
+      num-small windShift,
+    )
 below (Key source code) = omega arith
-below (Heading halves reference locked) = omega (arith, half-u halves, half-six halves, num-small locked)
+below (Heading halves reference locked) = omega (arith, half-u halves, half-six halves, quarter-most reference, num-small locked)
 below (Variation east) = omega arith
 below (Turn degrees right rudder) = omega (arith, whole-u degrees right, whole-six degrees right)
 

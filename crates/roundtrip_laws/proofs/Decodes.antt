@@ -3,7 +3,7 @@ use mathlib.Core.Path.{_≡_, ap, ap₂, _∙_}
 use mathlib.Core.Bool.{Bool, true, false}
 use Prim.Native.Nat.{ℕ, _+_, _-_, _*_, _/_, _%_, _≤_, _<_}
 use native.Mathlib.Omega.{arith}
-use lib.Dec.{eqb}
+use lib.Dec.{leb, eqb}
 use lib.IntN.{ℤ, pos, negℤ}
 use mir.Syntax.{w32}
 use mir.Val.{ofZ}
@@ -11,9 +11,10 @@ use borrow.Author.Tests.{le-leb, eq-eqb}
 use Rattle.number.specs.Word.{word, lowByte, highByte, bit, num}
 use Rattle.angle.specs.Half.{halfAngle, halfDigits}
 use Rattle.angle.specs.Degree.{wholeAngle, wholeDigits, turnsRight}
-use Rattle.angle.proofs.Laws.{half-six, half-reads, whole-six, whole-reads, whole-way}
+use Rattle.angle.specs.Quarter.{quarterAngle, quarterDigits}
+use Rattle.angle.proofs.Laws.{half-six, half-reads, whole-six, whole-reads, whole-way, quarter-reads}
 use Rattle.message.specs.declared.Message.{Message}
-use Rattle.message.specs.declared.Message.the-variants.{Depth, WindAngle, WindSpeed, Speed, Trip, Total, Logs, Speeds, Water, Lamp, Latitude, Longitude, Ground, Course, Time, Date, Key, Heading, Variation, Turn}
+use Rattle.message.specs.declared.Message.the-variants.{Depth, WindAngle, WindSpeed, Speed, Trip, Total, Logs, Speeds, Water, Lamp, Latitude, Longitude, Ground, Course, Time, Date, Pilot, Key, Heading, Variation, Turn}
 use Rattle.message.specs.declared.Reading.{Reading}
 use Rattle.message.specs.declared.Reading.the-variants.{Read}
 use Rattle.message.specs.declared.Verdict.the-variants.{InRange}
@@ -53,6 +54,24 @@ coordinate degrees hundredths side d h =
 -- six bits below two
 six-two : (six two : ℕ) → six < 64 → ((six + 64 * two) % 64 ≡ six) × ((six + 64 * two) / 64 ≡ two)
 six-two six two h = omega arith
+
+-- whole degrees of a message in range, by the digit above a datagram's length and the six low bits of VW (9C and 84)
+whole : (degrees : ℕ) (right : Bool) (ul vw : ℕ) → degrees ≤ 359
+    → ul / 16 ≡ wholeDigits degrees right .u → vw % 64 ≡ wholeDigits degrees right .six
+    → (leb (vw % 64) 44 ≡ true) × (wholeAngle (ul / 16) (vw % 64) ≡ degrees) × (turnsRight (ul / 16) ≡ right)
+whole degrees right ul vw h u six = (
+  le-leb (vw % 64) 44 (omega (arith, whole-six degrees right)),
+  ap₂ wholeAngle u six ∙ whole-reads degrees right (omega arith),
+  ap turnsRight u ∙ whole-way degrees right (omega arith),
+)
+
+-- half degrees of a message in range, by the two high bits of VW and XY (89 and 84)
+quarter : (halves vw : ℕ) → halves ≤ 719 → vw / 64 ≡ quarterDigits halves .quarter
+    → (leb (quarterDigits halves .xy) 179 ≡ true) × (quarterAngle (vw / 64) (quarterDigits halves .xy) ≡ halves)
+quarter halves vw h e = (
+  le-leb (quarterDigits halves .xy) 179 (omega arith),
+  ap (λ (q : ℕ). quarterAngle q (quarterDigits halves .xy)) e ∙ quarter-reads halves (omega arith),
+)
 
 pub decodes : (m : Message) → rangeOf m ≡ InRange → readKind (kindOf m) (bytesOf m) ≡ Read m
 unfolding rangeOf readKind kindOf bytesOf
@@ -135,32 +154,57 @@ decodes (Date month day year) r =
     let d : day % 256 ≡ day = omega arith in
     let y : year % 256 ≡ year = omega arith in
     cc
+decodes (Pilot degrees right course auto vane track offCourse windShift rudder ss tt) r =
+    let ranges = both (atMost 1 359 degrees) _ r in
+    let ranges₂ = both (atMost 3 719 course) _ (ranges .1) in
+    let ranges₃ = both (within 9 (negℤ (pos 128)) (pos 127) rudder) _ (ranges₂ .1) in
+    let limits = both-at-most 10 255 ss 11 255 tt (ranges₃ .1) in
+    let bounds = inside 9 (negℤ (pos 128)) (pos 127) rudder (ranges₃ .0) in
+    let ul : ℕ = 16 * wholeDigits degrees right .u + 6 in
+    let vw : ℕ = wholeDigits degrees right .six + 64 * quarterDigits course .quarter in
+    let parts = six-two (wholeDigits degrees right .six) (quarterDigits course .quarter) (omega (arith, whole-six degrees right)) in
+    let angle = whole degrees right ul vw (at-most 1 359 degrees (ranges .0)) (omega arith) (parts .0) in
+    let steered = quarter course vw (at-most 3 719 course (ranges₂ .0)) (parts .1) in
+    let a = num-small auto in
+    let v = num-small vane in
+    let t = num-small track in
+    let o = num-small offCourse in
+    let w = num-small windShift in
+    let z : ℕ = 2 * num auto + 4 * num vane + 8 * num track in
+    let m : ℕ = 4 * num offCourse + 8 * num windShift in
+    let s : ss % 256 ≡ ss = omega arith in
+    let k : tt % 256 ≡ tt = omega arith in
+    well 1 _ _ (angle .0)
+    ∙ well 3 _ _ (steered .0)
+    ∙ cc (
+      flag (z / 2 % 2) auto (omega arith),
+      flag (z / 4 % 2) vane (omega arith),
+      flag (z / 8 % 2) track (omega arith),
+      flag (m / 4 % 2) offCourse (omega arith),
+      flag (m / 8 % 2) windShift (omega arith),
+      rudder-reads rudder (bounds .0) (bounds .1),
+    )
 decodes (Key source code) r =
     let limits = both-at-most 1 15 source 2 255 code r in
     rw (eq-eqb (code % 256 + (255 - code % 256)) 255 (omega arith))
     (ap₂ (λ (n k : ℕ). Read (Key n k)) (omega arith) (omega arith))
 decodes (Heading halves reference locked) r =
     let limits = both-at-most 1 719 halves 2 719 reference r in
-    let turns : 180 * (reference / 180 % 4) + reference % 180 ≡ reference = omega arith in
     let small = half-six halves in
     let l = num-small locked in
-    let vw : ℕ = halfDigits halves .six + 64 * (reference / 180 % 4) in
+    let vw : ℕ = halfDigits halves .six + 64 * quarterDigits reference .quarter in
     let u : (16 * halfDigits halves .u + 2) / 16 ≡ halfDigits halves .u = omega arith in
-    let parts = six-two (halfDigits halves .six) (reference / 180 % 4) (omega arith) in
+    let parts = six-two (halfDigits halves .six) (quarterDigits reference .quarter) (omega arith) in
+    let steered = quarter reference vw (limits .1) (parts .1) in
     well 1 _ _ (le-leb (vw % 64) 44 (omega arith))
-    ∙ well 2 _ _ (le-leb (reference % 180) 179 (omega arith))
+    ∙ well 2 _ _ (steered .0)
     ∙ cc (ap₂ halfAngle u (parts .0) ∙ half-reads halves (omega arith), flag ((0x20 + 2 * num locked) / 2 % 2) locked (omega arith))
 decodes (Variation east) r =
     let ranges = inside 1 (negℤ (pos 127)) (pos 128) east r in
     ap (λ (z : ℤ). Read (Variation z)) (variation-reads east (ranges .0) (ranges .1))
 decodes (Turn degrees right rudder) r =
     let ranges = both (atMost 1 359 degrees) (within 3 (negℤ (pos 128)) (pos 127) rudder) r in
-    let limit = at-most 1 359 degrees (ranges .0) in
     let bounds = inside 3 (negℤ (pos 128)) (pos 127) rudder (ranges .1) in
-    let small = whole-six degrees right in
-    let u : (16 * wholeDigits degrees right .u + 1) / 16 ≡ wholeDigits degrees right .u = omega arith in
-    let six : wholeDigits degrees right .six % 64 ≡ wholeDigits degrees right .six = omega arith in
-    let angle = ap₂ wholeAngle u six ∙ whole-reads degrees right (omega arith) in
-    let way = ap turnsRight u ∙ whole-way degrees right (omega arith) in
-    well 1 _ _ (le-leb (wholeDigits degrees right .six % 64) 44 (omega arith))
-    ∙ cc (rudder-reads rudder (bounds .0) (bounds .1))
+    let vw : ℕ = wholeDigits degrees right .six in
+    let angle = whole degrees right (16 * wholeDigits degrees right .u + 1) vw (at-most 1 359 degrees (ranges .0)) (omega arith) (omega (arith, whole-six degrees right)) in
+    well 1 _ _ (angle .0) ∙ cc (rudder-reads rudder (bounds .0) (bounds .1))

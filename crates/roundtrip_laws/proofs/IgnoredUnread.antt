@@ -11,7 +11,7 @@ use borrow.Author.Tests.{eqb-true}
 use Rattle.number.proofs.Finite.{every, at}
 use Rattle.datagram.specs.Whole.{whole, allBytes}
 use Rattle.message.specs.declared.Kind.{Kind}
-use Rattle.message.specs.declared.Kind.the-variants.{Depth, WindAngle, WindSpeed, Speed, Trip, Total, Logs, Speeds, Water, Lamp, Latitude, Longitude, Ground, Course, Time, Date, Key, Heading, Variation, Turn}
+use Rattle.message.specs.declared.Kind.the-variants.{Depth, WindAngle, WindSpeed, Speed, Trip, Total, Logs, Speeds, Water, Lamp, Latitude, Longitude, Ground, Course, Time, Date, Pilot, Key, Heading, Variation, Turn}
 use Rattle.message.specs.declared.Row.{Row}
 use Rattle.message.specs.declared.Lookup.the-variants.{Found}
 use Rattle.message.specs.Table.{findOf}
@@ -131,6 +131,23 @@ alike Ground s t h = length-alone (h .0) (h .1 .0) (cc (same (h .1 .1 .0), same 
 alike Course s t h = length-below (h .0) (h .1 .0) (cc (same (h .1 .0), reads (h .1 .1 .0) (λ b. b % 64) tt))
 alike Time s t h = length-below (h .0) (h .1 .0) (cc (same (h .1 .0), same (h .1 .1 .0), same (h .1 .1 .1 .0)))
 alike Date s t h = length-below (h .0) (h .1 .0) (cc (same (h .1 .0), same (h .1 .1 .0), same (h .1 .1 .1 .0)))
+alike Pilot s t h =
+    let modes = h .1 .1 .1 .1 .0 in
+    let alarms = h .1 .1 .1 .1 .1 .0 in
+    length-below (h .0) (h .1 .0)
+    (cc (
+      same (h .1 .0),
+      same (h .1 .1 .0),
+      same (h .1 .1 .1 .0),
+      reads modes (λ b. b / 2 % 2) tt,
+      reads modes (λ b. b / 4 % 2) tt,
+      reads modes (λ b. b / 8 % 2) tt,
+      reads alarms (λ b. b / 4 % 2) tt,
+      reads alarms (λ b. b / 8 % 2) tt,
+      same (h .1 .1 .1 .1 .1 .1 .0),
+      same (h .1 .1 .1 .1 .1 .1 .1 .0),
+      same (h .1 .1 .1 .1 .1 .1 .1 .1 .0),
+    ))
 alike Key s t h = length-below (h .0) (h .1 .0) (cc (same (h .1 .0), same (h .1 .1 .0), same (h .1 .1 .1 .0)))
 alike Heading s t h =
     length-below (h .0) (h .1 .0)

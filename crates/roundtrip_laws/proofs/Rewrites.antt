@@ -1,8 +1,8 @@
 -- Each kind's datagram, read and written again, gives its own bytes, if its ignored bits stand as the writer sets them.
-use mathlib.Core.Path.{_≡_, refl, ap, _∙_}
+use mathlib.Core.Path.{_≡_, refl, ap, ap₂, _∙_}
 use mathlib.Core.Bool.{Bool, true, false, cond}
 use mathlib.Core.List.{List, [], _∷_}
-use Prim.Native.Nat.{ℕ, _+_, _-_, _*_, _/_, _%_}
+use Prim.Native.Nat.{ℕ, _+_, _-_, _*_, _/_, _%_, _≤_}
 use native.Mathlib.Omega.{arith}
 use lib.Dec.{leb, eqb}
 use lib.ListN.{length}
@@ -15,13 +15,15 @@ use Rattle.datagram.specs.declared.Refusal.{Refusal}
 use Rattle.datagram.specs.Refusals.{outOfRange, badRepeat}
 use Rattle.datagram.specs.Whole.{declared}
 use Rattle.angle.specs.declared.Digits.{Digits}
+use Rattle.angle.specs.declared.Quarter.{Quarter}
 use Rattle.angle.specs.Half.{halfAngle}
 use Rattle.angle.specs.Degree.{wholeAngle, turnsRight}
-use Rattle.angle.proofs.Laws.{half-spells, whole-spells}
+use Rattle.angle.specs.Quarter.{quarterAngle}
+use Rattle.angle.proofs.Laws.{half-spells, whole-spells, quarter-spells}
 use Rattle.message.specs.declared.Kind.{Kind}
 use Rattle.message.specs.declared.Kind.the-variants as kind
 use Rattle.message.specs.declared.Message.{Message}
-use Rattle.message.specs.declared.Message.the-variants.{WindSpeed, Lamp, Course, Key, Heading, Turn}
+use Rattle.message.specs.declared.Message.the-variants.{WindSpeed, Lamp, Course, Pilot, Key, Heading, Turn}
 use Rattle.message.specs.declared.Reading.{Reading}
 use Rattle.message.specs.declared.Reading.the-variants.{Read, Refused}
 use Rattle.message.specs.Spelling.{bytesOf}
@@ -44,6 +46,13 @@ if-passed : (b : Bool) (reading : Reading) (r : Refusal) (Q : Message → Type 0
     → IfRead (cond b reading (Refused r)) Q
 if-passed true reading r Q f = f refl
 if-passed false reading r Q f = tt
+
+-- both angles are spelled right: the six low bits of VW, field 1, and XY, field k (89 and 84)
+if-spelled : (vw xy k : ℕ) (m : Message) (Q : Message → Type 0) → (vw % 64 ≤ 44 → xy ≤ 179 → Q m)
+    → IfRead (spelled 1 (leb (vw % 64) 44) (spelled k (leb xy 179) (Read m))) Q
+if-spelled vw xy k m Q f =
+    if-passed (leb (vw % 64) 44) (spelled k (leb xy 179) (Read m)) (outOfRange 1) Q
+    (λ p. if-passed (leb xy 179) (Read m) (outOfRange k) Q (λ q. f (leb-true (vw % 64) 44 p) (leb-true xy 179 q)))
 
 -- the message is written as this datagram, if the ignored bits stand
 abbrev pub Back : List ℕ → Message → Type 0
@@ -129,6 +138,22 @@ date : Rewritten 0x56 4 kind.Date
 unfolding readKind kindOf ignored bytesOf
 date a b c d head h = same _ _ (omega arith)
 
+pilot : Rewritten 0x84 9 kind.Pilot
+unfolding readKind kindOf ignored bytesOf
+pilot a b c d e f g i j head =
+    if-spelled c d 3
+    (Pilot (wholeAngle (b / 16) (c % 64)) (turnsRight (b / 16)) (quarterAngle (c / 64) d) (bit 2 e) (bit 4 e) (bit 8 e) (bit 4 f) (bit 8 f)
+    (toZ w8 g) i j)
+    (Back (a ∷ b ∷ c ∷ d ∷ e ∷ f ∷ g ∷ i ∷ j ∷ []))
+    (λ six rest h.
+    let modes : ℕ → ℕ = λ x. 2 * num (bit 2 x) + 4 * num (bit 4 x) + 8 * num (bit 8 x) in
+    let alarms : ℕ → ℕ = λ x. 4 * num (bit 4 x) + 8 * num (bit 8 x) in
+    let rudder : ℕ → ℕ = λ x. ofZ w32 (toZ w8 x) % 256 in
+    ap₂ (λ (x : Digits) (y : Quarter). 0x84 ∷ (16 * x .u + 6) ∷ (x .six + 64 * y .quarter) ∷ y .xy ∷ modes e ∷ alarms f ∷ rudder g ∷ (i % 256) ∷ (j % 256) ∷ [])
+    (whole-spells (b / 16) (c % 64) (omega arith) (omega arith)) (quarter-spells (c / 64) d (omega arith) (omega arith))
+    ∙ same _ _
+    (omega (arith, kept (h .1 .1 .1 .1 .0) modes tt, kept (h .1 .1 .1 .1 .1 .0) alarms tt, kept (h .1 .1 .1 .1 .1 .1 .0) rudder tt)))
+
 key : Rewritten 0x86 4 kind.Key
 unfolding readKind kindOf ignored bytesOf
 key a b c d head =
@@ -138,19 +163,12 @@ key a b c d head =
 heading : Rewritten 0x89 5 kind.Heading
 unfolding readKind kindOf ignored bytesOf
 heading a b c d e head =
-    let reference : ℕ = 180 * (c / 64) + d in
-    let m : Message = Heading (halfAngle (b / 16) (c % 64)) reference (bit 2 e) in
-    let s : List ℕ = a ∷ b ∷ c ∷ d ∷ e ∷ [] in
-    if-passed (leb (c % 64) 44) (spelled 2 (leb d 179) (Read m)) (outOfRange 1) (Back s)
-    (λ p.
-    if-passed (leb d 179) (Read m) (outOfRange 2) (Back s)
-    (λ q h.
-    let six = leb-true (c % 64) 44 p in
-    let rest = leb-true d 179 q in
-    let locked = kept (h .1 .1 .1 .1 .0) (λ x. 0x20 + 2 * num (bit 2 x)) tt in
-    ap (λ (g : Digits). 0x89 ∷ (16 * g .u + 2) ∷ (g .six + 64 * (reference / 180 % 4)) ∷ (reference % 180) ∷ (0x20 + 2 * num (bit 2 e)) ∷ [])
-    (half-spells (b / 16) (c % 64) (omega arith) (omega arith))
-    ∙ same _ _ (omega arith)))
+    if-spelled c d 2 (Heading (halfAngle (b / 16) (c % 64)) (quarterAngle (c / 64) d) (bit 2 e)) (Back (a ∷ b ∷ c ∷ d ∷ e ∷ []))
+    (λ six rest h.
+    let locked : ℕ → ℕ = λ x. 0x20 + 2 * num (bit 2 x) in
+    ap₂ (λ (x : Digits) (y : Quarter). 0x89 ∷ (16 * x .u + 2) ∷ (x .six + 64 * y .quarter) ∷ y .xy ∷ locked e ∷ [])
+    (half-spells (b / 16) (c % 64) (omega arith) (omega arith)) (quarter-spells (c / 64) d (omega arith) (omega arith))
+    ∙ same _ _ (omega (arith, kept (h .1 .1 .1 .1 .0) locked tt)))
 
 variation : Rewritten 0x99 3 kind.Variation
 unfolding readKind kindOf ignored bytesOf
@@ -169,4 +187,4 @@ pub rewrites : Each (λ row. Rewritten (row .command) (row .length) (row .kind))
 unfolding kinds
 rewrites =
     depth and windAngle and windSpeed and speed and trip and total and logs and speeds and water and lamp
-    and latitude and longitude and ground and course and time and date and key and heading and variation and turn and end
+    and latitude and longitude and ground and course and time and date and pilot and key and heading and variation and turn and end

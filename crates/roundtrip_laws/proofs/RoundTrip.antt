@@ -1,4 +1,4 @@
--- The laws of demand 2, for all twenty kinds.
+-- The laws of demand 2, for all kinds.
 use mathlib.Core.Path.{_≡_, refl, subst}
 use mathlib.Core.Bool.{true}
 use mathlib.Core.List.{List}

@@ -4,7 +4,7 @@ use lib.ListN.{length}
 use Rattle.message.specs.declared.Row.{Row}
 use Rattle.message.specs.declared.Lookup.the-variants.{Found}
 use Rattle.message.specs.declared.Message.{Message}
-use Rattle.message.specs.declared.Message.the-variants.{Depth, WindAngle, WindSpeed, Speed, Trip, Total, Logs, Speeds, Water, Lamp, Latitude, Longitude, Ground, Course, Time, Date, Key, Heading, Variation, Turn}
+use Rattle.message.specs.declared.Message.the-variants.{Depth, WindAngle, WindSpeed, Speed, Trip, Total, Logs, Speeds, Water, Lamp, Latitude, Longitude, Ground, Course, Time, Date, Pilot, Key, Heading, Variation, Turn}
 use Rattle.message.specs.Spelling.{bytesOf}
 use Rattle.message.specs.Table.{kinds, findOf}
 use Rattle.message.specs.Reading.{byte}
@@ -32,6 +32,7 @@ finds (Ground tenths) = refl
 finds (Course halves) = refl
 finds (Time hours minutes seconds) = refl
 finds (Date month day year) = refl
+finds (Pilot degrees right course auto vane track offCourse windShift rudder ss tt) = refl
 finds (Key source code) = refl
 finds (Heading halves reference locked) = refl
 finds (Variation east) = refl

@@ -13,7 +13,7 @@ use Rattle.angle.specs.Half.{halfDigits}
 use Rattle.angle.specs.Degree.{wholeDigits}
 use Rattle.angle.proofs.Laws.{half-six, whole-six}
 use Rattle.message.specs.declared.Message.{Message}
-use Rattle.message.specs.declared.Message.the-variants.{Depth, WindAngle, WindSpeed, Speed, Trip, Total, Logs, Speeds, Water, Lamp, Latitude, Longitude, Ground, Course, Time, Date, Key, Heading, Variation, Turn}
+use Rattle.message.specs.declared.Message.the-variants.{Depth, WindAngle, WindSpeed, Speed, Trip, Total, Logs, Speeds, Water, Lamp, Latitude, Longitude, Ground, Course, Time, Date, Pilot, Key, Heading, Variation, Turn}
 use Rattle.message.specs.Fields.{kindOf}
 use Rattle.message.specs.Spelling.{bytesOf, topDigit}
 use Rattle.roundtrip_laws.specs.Ignored.{ignored, asWritten}
@@ -60,6 +60,21 @@ heading-flag : (locked : Bool) → eqb (bitAnd 0xFD (0x20 + 2 * num locked)) 0x2
 heading-flag true = refl
 heading-flag false = refl
 
+pilot-modes : (auto vane track : Bool) → eqb (bitAnd 0xF1 (2 * num auto + 4 * num vane + 8 * num track)) 0 ≡ true
+pilot-modes auto vane track =
+    let a = num-small auto in
+    let v = num-small vane in
+    let t = num-small track in
+    let z : ℕ = 2 * num auto + 4 * num vane + 8 * num track in
+    set 0xF1 0 (λ b. 2 * (b / 2 % 8)) tt z (omega arith) (omega arith)
+
+pilot-alarms : (offCourse windShift : Bool) → eqb (bitAnd 0xF3 (4 * num offCourse + 8 * num windShift)) 0 ≡ true
+pilot-alarms offCourse windShift =
+    let o = num-small offCourse in
+    let w = num-small windShift in
+    let m : ℕ = 4 * num offCourse + 8 * num windShift in
+    set 0xF3 0 (λ b. 4 * (b / 4 % 4)) tt m (omega arith) (omega arith)
+
 pub ignored-set : (m : Message) → asWritten (ignored (kindOf m)) (bytesOf m) ≡ true
 unfolding ignored kindOf bytesOf
 ignored-set (Depth tenths anchor metric defective deep shallow) = rw (depth-flags anchor metric defective deep shallow)
@@ -78,6 +93,8 @@ ignored-set (Ground tenths) = refl
 ignored-set (Course halves) = rw (six (halfDigits halves .six) (omega (arith, half-six halves)))
 ignored-set (Time hours minutes seconds) = refl
 ignored-set (Date month day year) = refl
+ignored-set (Pilot degrees right course auto vane track offCourse windShift rudder ss tt) =
+    rw (pilot-modes auto vane track, pilot-alarms offCourse windShift)
 ignored-set (Key source code) = refl
 ignored-set (Heading halves reference locked) = rw (heading-flag locked)
 ignored-set (Variation east) = refl

@@ -6,7 +6,7 @@ use lib.Dec.{eqb}
 use lib.Bits.{bitAnd}
 use lib.ListN.{getD, drop}
 use Rattle.message.specs.declared.Kind.{Kind}
-use Rattle.message.specs.declared.Kind.the-variants.{Depth, WindAngle, WindSpeed, Speed, Trip, Total, Logs, Speeds, Water, Lamp, Latitude, Longitude, Ground, Course, Time, Date, Key, Heading, Variation, Turn}
+use Rattle.message.specs.declared.Kind.the-variants.{Depth, WindAngle, WindSpeed, Speed, Trip, Total, Logs, Speeds, Water, Lamp, Latitude, Longitude, Ground, Course, Time, Date, Pilot, Key, Heading, Variation, Turn}
 
 -- the ignored bits of one byte as a mask, and their value as written
 pub record Ignored : Type 0 where
@@ -37,6 +37,7 @@ ignored Ground = none ∷ bits 0xF0 ∷ none ∷ none ∷ []
 ignored Course = none ∷ none ∷ bits 0xC0 ∷ []
 ignored Time = none ∷ none ∷ none ∷ none ∷ []
 ignored Date = none ∷ none ∷ none ∷ none ∷ []
+ignored Pilot = none ∷ none ∷ none ∷ none ∷ bits 0xF1 ∷ bits 0xF3 ∷ none ∷ none ∷ none ∷ []
 ignored Key = none ∷ none ∷ none ∷ none ∷ []
 ignored Heading = none ∷ none ∷ none ∷ none ∷ record { mask = 0xFD; written = 0x20 } ∷ []
 ignored Variation = none ∷ bits 0xF0 ∷ none ∷ []

@@ -1,6 +1,7 @@
 -- The fields of a message in range have 32 bits with their signs.
 use mathlib.Core.Path.{_≡_}
 use mathlib.Core.Bool.{Bool, true}
+use mathlib.Core.List.{[], _∷_}
 use Prim.Native.Nat.{ℕ, _<_}
 use native.Mathlib.Omega.{arith}
 use borrow.Author.Tests.{leb-true}
@@ -10,7 +11,7 @@ use mir.Syntax.{w32}
 use mir.Val.{SFits}
 use Rattle.number.specs.Word.{num}
 use Rattle.message.specs.declared.Message.{Message}
-use Rattle.message.specs.declared.Message.the-variants.{Depth, WindAngle, WindSpeed, Speed, Trip, Total, Logs, Speeds, Water, Lamp, Latitude, Longitude, Ground, Course, Time, Date, Key, Heading, Variation, Turn}
+use Rattle.message.specs.declared.Message.the-variants.{Depth, WindAngle, WindSpeed, Speed, Trip, Total, Logs, Speeds, Water, Lamp, Latitude, Longitude, Ground, Course, Time, Date, Pilot, Key, Heading, Variation, Turn}
 use Rattle.message.specs.declared.Verdict.the-variants.{InRange}
 use Rattle.message.specs.Fields.{fieldsOf}
 use Rattle.message.specs.Range.{rangeOf, atMost, fromOne, within, andThen}
@@ -60,6 +61,15 @@ fields-fit (Date month day year) r =
     let parts = both (fromOne 1 12 month) (andThen (fromOne 2 31 day) (atMost 3 99 year)) r in
     let later = both (fromOne 2 31 day) (atMost 3 99 year) (parts .1) in
     (small (omega (arith, from-one 1 12 month (parts .0))), (small (omega (arith, from-one 2 31 day (later .0))), (small (omega (arith, at-most 3 99 year (later .1))), tt)))
+fields-fit (Pilot degrees right course auto vane track offCourse windShift rudder s t) r =
+    let parts = both (atMost 1 359 degrees) _ r in
+    let later = both (atMost 3 719 course) _ (parts .1) in
+    let last = both (within 9 (negℤ (pos 128)) (pos 127) rudder) _ (later .1) in
+    let ends = both-at-most 10 255 s 11 255 t (last .1) in
+    let steered : SFits w32 (pos course) = small (omega (arith, at-most 3 719 course (later .0))) in
+    let rudders = bounded 127 127 rudder (omega arith) (omega arith) (inside 9 (negℤ (pos 128)) (pos 127) rudder (last .0)) in
+    let tail : AllFit (rudder ∷ pos s ∷ pos t ∷ []) = (rudders, (small (omega (arith, ends .0)), (small (omega (arith, ends .1)), tt))) in
+    (small (omega (arith, at-most 1 359 degrees (parts .0))), (flag right, (steered, (flag auto, (flag vane, (flag track, (flag offCourse, (flag windShift, tail))))))))
 fields-fit (Key source code) r =
     let parts = both-at-most 1 15 source 2 255 code r in
     (small (omega (arith, parts .0)), (small (omega (arith, parts .1)), tt))

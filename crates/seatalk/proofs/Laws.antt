@@ -14,7 +14,7 @@ use Rattle.number.specs.Word.{num}
 use Rattle.number.proofs.Longs.{together}
 use Rattle.message.specs.declared.Lookup.{Lookup}
 use Rattle.message.specs.declared.Message.{Message}
-use Rattle.message.specs.declared.Message.the-variants.{Depth, WindAngle, WindSpeed, Speed, Trip, Total, Logs, Speeds, Water, Lamp, Latitude, Longitude, Ground, Course, Time, Date, Key, Heading, Variation, Turn}
+use Rattle.message.specs.declared.Message.the-variants.{Depth, WindAngle, WindSpeed, Speed, Trip, Total, Logs, Speeds, Water, Lamp, Latitude, Longitude, Ground, Course, Time, Date, Pilot, Key, Heading, Variation, Turn}
 use Rattle.message.specs.declared.Verdict.the-variants.{InRange}
 use Rattle.message.specs.Fields.{kindOf, commandOf, fieldsOf}
 use Rattle.message.specs.Range.{rangeOf}
@@ -67,6 +67,7 @@ named-as (Ground tenths) = record { command = refl; count = refl; flags = refl; 
 named-as (Course halves) = record { command = refl; count = refl; flags = refl; message = refl }
 named-as (Time hours minutes seconds) = record { command = refl; count = refl; flags = refl; message = refl }
 named-as (Date month day year) = record { command = refl; count = refl; flags = refl; message = refl }
+named-as (Pilot degrees right course auto vane track offCourse windShift rudder ss tt) = record { command = refl; count = refl; flags = rw (a-flag right, a-flag auto, a-flag vane, a-flag track, a-flag offCourse, a-flag windShift); message = rw (as-told right, as-told auto, as-told vane, as-told track, as-told offCourse, as-told windShift) }
 named-as (Key source code) = record { command = refl; count = refl; flags = refl; message = refl }
 named-as (Heading halves reference locked) = record { command = refl; count = refl; flags = rw (a-flag locked); message = rw (as-told locked) }
 named-as (Variation east) = record { command = refl; count = refl; flags = refl; message = refl }

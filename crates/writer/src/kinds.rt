@@ -3,7 +3,9 @@ use crate::store::store3;
 use crate::store::store4;
 use crate::store::store5;
 use crate::store::store7;
+use crate::store::store9;
 use angle::half_digits;
+use angle::quarter_digits;
 use angle::whole_digits;
 use datagram::Written;
 use number::bits_of;
@@ -13,7 +15,7 @@ ghost use mathlib.Core.List.{[], _∷_};
 ghost use Prim.Native.Nat.{_+_, _*_, _/_, _%_};
 ghost use Rattle.number.specs.Word.{lowByte, num};
 ghost use Rattle.datagram.specs.Position.{outcome};
-ghost use Rattle.message.specs.Spelling.{depthBytes, windAngleBytes, windSpeedBytes, speedBytes, tripBytes, totalBytes, logsBytes, speedsBytes, waterBytes, lampBytes, latitudeBytes, longitudeBytes, groundBytes, courseBytes, timeBytes, dateBytes, keyBytes, headingBytes, variationBytes, turnBytes};
+ghost use Rattle.message.specs.Spelling.{depthBytes, windAngleBytes, windSpeedBytes, speedBytes, tripBytes, totalBytes, logsBytes, speedsBytes, waterBytes, lampBytes, latitudeBytes, longitudeBytes, groundBytes, courseBytes, timeBytes, dateBytes, pilotBytes, keyBytes, headingBytes, variationBytes, turnBytes};
 ghost use Rattle.writer.specs.Writing.{storeOf};
 
 pub fn depth(
@@ -222,6 +224,40 @@ pub fn date(part: &mut [u16], month: u32, day: u32, year: u32) -> Written
     )
 }
 
+pub fn pilot(
+    part: &mut [u16],
+    degrees: u32,
+    right: bool,
+    course: u32,
+    auto: bool,
+    vane: bool,
+    track: bool,
+    off_course: bool,
+    wind_shift: bool,
+    rudder: i32,
+    ss: u32,
+    tt: u32,
+) -> Written
+    ensures { λ r. ⌜ outcome r (now (part .exit)) ≡ storeOf (pilotBytes degrees right course auto vane track «off_course» «wind_shift» rudder ss tt) (now (part .entry)) ⌝ }
+{
+    let a = whole_digits(degrees, right);
+    let c = quarter_digits(course);
+    let z = 2 * flag(auto) + 4 * flag(vane) + 8 * flag(track);
+    let m = 4 * flag(off_course) + 8 * flag(wind_shift);
+    store9(
+        part,
+        0x84,
+        16 * a.u + 6,
+        a.six + 64 * c.quarter,
+        c.xy,
+        z,
+        m,
+        (bits_of(rudder) % 256) as u8,
+        (ss % 256) as u8,
+        (tt % 256) as u8,
+    )
+}
+
 pub fn key(part: &mut [u16], source: u32, code: u32) -> Written
     ensures { λ r. ⌜ outcome r (now (part .exit)) ≡ storeOf (keyBytes source code) (now (part .entry)) ⌝ }
 {
@@ -233,13 +269,13 @@ pub fn heading(part: &mut [u16], halves: u32, reference: u32, locked: bool) -> W
     ensures { λ r. ⌜ outcome r (now (part .exit)) ≡ storeOf (headingBytes halves reference locked) (now (part .entry)) ⌝ }
 {
     let d = half_digits(halves);
-    let vw = d.six + 64 * ((reference / 180 % 4) as u8);
+    let r = quarter_digits(reference);
     store5(
         part,
         0x89,
         16 * d.u + 2,
-        vw,
-        (reference % 180) as u8,
+        d.six + 64 * r.quarter,
+        r.xy,
         0x20 + 2 * flag(locked),
     )
 }

@@ -60,3 +60,32 @@ pub fn store7(part: &mut [u16], a: u8, b: u8, c: u8, d: u8, e: u8, f: u8, g: u8)
     part[6] = g as u16;
     Written::Wrote(7)
 }
+
+pub fn store9(
+    part: &mut [u16],
+    a: u8,
+    b: u8,
+    c: u8,
+    d: u8,
+    e: u8,
+    f: u8,
+    g: u8,
+    h: u8,
+    i: u8,
+) -> Written
+    ensures { λ r. ⌜ outcome r (now (part .exit)) ≡ storeOf (a ∷ b ∷ c ∷ d ∷ e ∷ f ∷ g ∷ h ∷ i ∷ []) (now (part .entry)) ⌝ }
+{
+    if part.len() < 9 {
+        return Written::Refused(NO_ROOM);
+    }
+    part[0] = 256 + a as u16;
+    part[1] = b as u16;
+    part[2] = c as u16;
+    part[3] = d as u16;
+    part[4] = e as u16;
+    part[5] = f as u16;
+    part[6] = g as u16;
+    part[7] = h as u16;
+    part[8] = i as u16;
+    Written::Wrote(9)
+}

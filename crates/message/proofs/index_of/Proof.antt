@@ -20,10 +20,10 @@ row-miss : (rs : List Row) (i : ℕ) (d : Row) (command : ℕ) → i < length rs
 row-miss rs i d command h e = rw (drop-cons rs i d h, ne-eqb _ _ e, add-one)
 
 abbrev Inv-loop : tie.InvT-loop
-Inv-loop command table i₀ i = (i ≤ 20) × (findOf command ≡ rowIn (drop i kinds) command)
+Inv-loop command table i₀ i = (i ≤ 21) × (findOf command ≡ rowIn (drop i kinds) command)
 
 abbrev μ-loop : tie.MeasureT-loop
-μ-loop command table i₀ i = 20 - i
+μ-loop command table i₀ i = 21 - i
 
 loop-holds : tie.Need-loop-holds Inv-loop μ-loop
 unfolding findOf
@@ -44,7 +44,7 @@ loop-again c =
 returns-2 : tie.Need-returns-2 Inv-loop μ-loop
 unfolding kinds rowAt
 returns-2 c =
-    let end : c .before .loop .i ≡ 20 = omega arith in
+    let end : c .before .loop .i ≡ 21 = omega arith in
     sym (c .before .loop .inv .1 ∙ ap (λ (i : ℕ). rowIn (drop i kinds) (c .before .before .before .args .command)) end)
 
 pub index-of-spec : {M : Type 1} → statement M

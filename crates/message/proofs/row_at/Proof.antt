@@ -1,4 +1,4 @@
--- `row_at` gives each number below 20 the table's row at that index, and any other none: the table has 20 rows.
+-- `row_at` gives each number below 21 the table's row at that index, and any other none: the table has 21 rows.
 use borrow.Author.Needs.{needs}
 use mathlib.Core.Path.{_≡_, refl, sym, ap}
 use native.Mathlib.Omega.{arith}
@@ -25,7 +25,7 @@ row-at-spec =
     (λ c. search needs) (λ c. search needs) (λ c. search needs) (λ c. search needs) (λ c. search needs)
     (λ c. search needs) (λ c. search needs) (λ c. search needs) (λ c. search needs) (λ c. search needs)
     (λ c. search needs) (λ c. search needs) (λ c. search needs) (λ c. search needs) (λ c. search needs)
-    (λ c. search needs)
+    (λ c. search needs) (λ c. search needs)
     (λ c. rw (c .before .match .keys1, c .before .before .rows .ensures) refl)
     (λ c. rw (c .before .match .keys2, c .before .before .rows .ensures) refl)
     (λ c. rw (c .before .match .keys3, c .before .before .rows .ensures) refl)
@@ -46,4 +46,5 @@ row-at-spec =
     (λ c. rw (c .before .match .keys18, c .before .before .rows .ensures) refl)
     (λ c. rw (c .before .match .keys19, c .before .before .rows .ensures) refl)
     (λ c. rw (c .before .match .keys20, c .before .before .rows .ensures) refl)
-    (λ c. sym (ap first (drop-of-length-le kinds (skipped 20 (c .before .before .args .index) (c .match .rest))))))
+    (λ c. rw (c .before .match .keys21, c .before .before .rows .ensures) refl)
+    (λ c. sym (ap first (drop-of-length-le kinds (skipped 21 (c .before .before .args .index) (c .match .rest))))))

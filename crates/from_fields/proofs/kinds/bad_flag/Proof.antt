@@ -1,9 +1,26 @@
--- `bad_flag` looks at the flags of each kind's clause.
-use mathlib.Core.Path.{_∙_}
-use Rattle.from_fields.specs.Naming.{flagsOf}
+-- `bad_flag` looks at the flags of each kind's clause; the autopilot's stand in two stretches.
 use borrow.Author.Needs.{needs}
+use mathlib.Core.Path.{_≡_, refl, _∙_}
+use mathlib.Core.Bool.{Bool, true, false, cond}
+use Prim.Native.Nat.{ℕ}
+use lib.Dec.{leb, eqb}
+use Rattle.from_fields.specs.Numbers.{numbersOf}
+use Rattle.from_fields.specs.Naming.{flagsOf, natural}
 use Rattle.from_fields.proofs.kinds.bad_flag.Statement.{statement}
 use Rattle.from_fields.proofs.kinds.bad_flag.Tie as tie
+
+-- flag 2, and then those of the second stretch
+two-then : (good : Bool) (later : ℕ) → cond (eqb (cond good 0 2) 0) later (cond good 0 2) ≡ cond good later 2
+two-then true later = refl
+two-then false later = refl
+
+returns-17 : tie.Need-returns-17
+unfolding flagsOf
+returns-17 c =
+    let zs = numbersOf (c .before .before .before .before .before .before .args .fields .now) in
+    c .first-flag .ensures
+    ∙ rw (c .before .before .first-bad6 .ensures, c .before .first-bad7 .ensures, c .before .before .before .enum-told17 .given .1)
+    (two-then (leb (natural zs 1) 1) _)
 
 pub bad-flag-spec : {M : Type 1} → statement M
 unfolding flagsOf
@@ -25,6 +42,7 @@ bad-flag-spec =
     (λ c. search needs)
     (λ c. search needs)
     (λ c. search needs)
+    (λ c. search needs) (λ c κs. search needs) (λ c κs. search needs) (λ c κs. search needs)
     (λ c. search needs)
     (λ c. search needs) (λ c κs. search needs)
     (λ c. search needs)
@@ -45,7 +63,8 @@ bad-flag-spec =
     (λ c. rw (c .enum-told14 .given .1))
     (λ c. rw (c .enum-told15 .given .1))
     (λ c. rw (c .enum-told16 .given .1))
-    (λ c. rw (c .enum-told17 .given .1))
-    (λ c. c .first-bad6 .ensures ∙ rw (c .before .enum-told18 .given .1))
-    (λ c. rw (c .enum-told19 .given .1))
-    (λ c. c .first-bad7 .ensures ∙ rw (c .before .enum-told20 .given .1)))
+    returns-17
+    (λ c. rw (c .enum-told18 .given .1))
+    (λ c. c .first-bad8 .ensures ∙ rw (c .before .enum-told19 .given .1))
+    (λ c. rw (c .enum-told20 .given .1))
+    (λ c. c .first-bad9 .ensures ∙ rw (c .before .enum-told21 .given .1)))

@@ -41,26 +41,42 @@ returns-16 c = c .first-of8 .ensures ∙ ap₂ andThen (c .before .before .befor
 
 returns-17 : tie.Need-returns-17
 unfolding rangeOf
-returns-17 c = c .first-of9 .ensures ∙ ap₂ andThen (c .before .before .at-most22 .ensures) (c .before .at-most23 .ensures) ∙ sym (ap rangeOf (c .before .before .before .before .m17 .given .1))
+returns-17 c =
+    let m = c .before .before .before .before .before .before .before .before .before .before .m17 .given in
+    let z = m .0 .1 .1 .1 .1 .1 .1 .1 .1 .0 in
+    let e : toZ w32 (ofZ w32 z) ≡ z = search needs in
+    c .first-of12 .ensures
+    ∙ ap₂ andThen (c .before .before .before .before .before .before .before .before .at-most22 .ensures)
+    (c .before .first-of11 .ensures
+    ∙ ap₂ andThen (c .before .before .before .before .before .before .before .at-most23 .ensures)
+    (c .before .before .first-of10 .ensures
+    ∙ ap₂ andThen (c .before .before .before .before .before .before .in-bounds2 .ensures ∙ ap (within 9 (negℤ (pos 128)) (pos 127)) e)
+    (c .before .before .before .first-of9 .ensures
+    ∙ ap₂ andThen (c .before .before .before .before .before .at-most24 .ensures) (c .before .before .before .before .at-most25 .ensures))))
+    ∙ sym (ap rangeOf (m .1))
 
 returns-18 : tie.Need-returns-18
 unfolding rangeOf
-returns-18 c = c .first-of10 .ensures ∙ ap₂ andThen (c .before .before .at-most24 .ensures) (c .before .at-most25 .ensures) ∙ sym (ap rangeOf (c .before .before .before .before .m18 .given .1))
+returns-18 c = c .first-of13 .ensures ∙ ap₂ andThen (c .before .before .at-most26 .ensures) (c .before .at-most27 .ensures) ∙ sym (ap rangeOf (c .before .before .before .before .m18 .given .1))
 
 returns-19 : tie.Need-returns-19
 unfolding rangeOf
-returns-19 c =
-    let z = c .before .before .m19 .given .0 .0 in
-    let e : toZ w32 (ofZ w32 z) ≡ z = search needs in
-    c .in-bounds2 .ensures ∙ ap (within 1 (negℤ (pos 127)) (pos 128)) e ∙ sym (ap rangeOf (c .before .before .m19 .given .1))
+returns-19 c = c .first-of14 .ensures ∙ ap₂ andThen (c .before .before .at-most28 .ensures) (c .before .at-most29 .ensures) ∙ sym (ap rangeOf (c .before .before .before .before .m19 .given .1))
 
 returns-20 : tie.Need-returns-20
 unfolding rangeOf
 returns-20 c =
-    let m = c .before .before .before .before .m20 .given in
+    let z = c .before .before .m20 .given .0 .0 in
+    let e : toZ w32 (ofZ w32 z) ≡ z = search needs in
+    c .in-bounds3 .ensures ∙ ap (within 1 (negℤ (pos 127)) (pos 128)) e ∙ sym (ap rangeOf (c .before .before .m20 .given .1))
+
+returns-21 : tie.Need-returns-21
+unfolding rangeOf
+returns-21 c =
+    let m = c .before .before .before .before .m21 .given in
     let e : toZ w32 (ofZ w32 (m .0 .1 .1 .0)) ≡ m .0 .1 .1 .0 = search needs in
-    c .first-of11 .ensures
-    ∙ ap₂ andThen (c .before .before .at-most26 .ensures) (c .before .in-bounds3 .ensures ∙ ap (within 3 (negℤ (pos 128)) (pos 127)) e)
+    c .first-of15 .ensures
+    ∙ ap₂ andThen (c .before .before .at-most30 .ensures) (c .before .in-bounds4 .ensures ∙ ap (within 3 (negℤ (pos 128)) (pos 127)) e)
     ∙ sym (ap rangeOf (m .1))
 
 pub range-of-spec : {M : Type 1} → statement M
@@ -85,6 +101,8 @@ range-of-spec =
     (λ c κs. search needs)
     (λ c. search needs) (λ c κs. search needs) (λ c κs. search needs) (λ c κs. search needs) (λ c κs. search needs)
     (λ c κs. search needs)
+    (λ c. search needs) (λ c κs. search needs) (λ c κs. search needs) (λ c κs. search needs) (λ c κs. search needs) (λ c κs. search needs)
+    (λ c κs. search needs) (λ c κs. search needs) (λ c κs. search needs) (λ c κs. search needs)
     (λ c. search needs) (λ c κs. search needs) (λ c κs. search needs) (λ c κs. search needs)
     (λ c. search needs) (λ c κs. search needs) (λ c κs. search needs) (λ c κs. search needs)
     (λ c. search needs) (λ c κs. search needs)
@@ -108,4 +126,5 @@ range-of-spec =
     returns-17
     returns-18
     returns-19
-    returns-20)
+    returns-20
+    returns-21)

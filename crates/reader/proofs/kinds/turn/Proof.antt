@@ -2,18 +2,12 @@
 use borrow.Author.Needs.{needs}
 use borrow.Author.Tests.{le-leb, lt-leb}
 use mathlib.Core.Path.{ap}
-use mathlib.Core.Bool.{_&&_}
 use Prim.Native.Nat.{_/_, _%_}
-use native.Mathlib.Omega.{arith}
-use lib.IntN.{pos, negℤ}
-use lib.Signed.{leZ}
-use mir.Syntax.{w8, w32}
-use mir.Val.{toZ}
+use mir.Syntax.{w32}
 use Rattle.number.proofs.Signed.{handed}
-use Rattle.angle.specs.Degree.{wholeAngle}
 use Rattle.message.specs.declared.Reading.the-variants.{Refused}
 use Rattle.message.specs.Range.{rangeOf}
-use Rattle.reader.proofs.Limits.{each-byte}
+use Rattle.reader.proofs.Limits.{whole-fits, signed-fits}
 use Rattle.reader.proofs.kinds.turn.Statement.{statement}
 use Rattle.reader.proofs.kinds.turn.Tie as tie
 
@@ -26,8 +20,8 @@ returns c =
       handed w32 (c .signed-byte .ok) (c .signed-byte .ensures),
       c .before .turns-right .ensures,
       c .before .before .whole-angle .ensures,
-      le-leb (wholeAngle (a .u1 / 16) (a .vw % 64)) 359 (omega arith),
-      each-byte (λ b. leZ (negℤ (pos 128)) (toZ w8 b) && leZ (toZ w8 b) (pos 127)) tt (c .before .before .before .before .fits .rr),
+      whole-fits (a .u1 / 16) (a .vw % 64),
+      signed-fits (c .before .before .before .before .fits .rr),
     )
 
 returns-2 : tie.Need-returns-2
