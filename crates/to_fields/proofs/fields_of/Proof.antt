@@ -1,10 +1,38 @@
 -- `fields_of` puts each kind's fields, widened to 64 bits, where its clause of the definition has them.
 use borrow.Author.Needs.{needs}
+use mathlib.Core.Path.{_≡_}
+use lib.IntN.{pos}
 use mir.Syntax.{w64}
+use Rattle.number.specs.Word.{num}
 use Rattle.number.proofs.Signed.{handed, counted, wide-read, widened}
 use Rattle.message.specs.Fields.{fieldsOf}
 use Rattle.to_fields.proofs.fields_of.Statement.{statement}
 use Rattle.to_fields.proofs.fields_of.Tie as tie
+
+returns-17 : tie.Need-returns-17
+unfolding fieldsOf
+returns-17 c =
+    let m = c .before .before .before .before .before .before .before .m17 .given in
+    let right : _ ≡ pos (num (m .0 .1 .0)) = handed w64 (c .before .before .before .before .before .flag-value12 .ok) (c .before .before .before .before .before .flag-value12 .ensures) in
+    let auto : _ ≡ pos (num (m .0 .1 .1 .1 .0)) = handed w64 (c .before .before .before .before .flag-value13 .ok) (c .before .before .before .before .flag-value13 .ensures) in
+    let vane : _ ≡ pos (num (m .0 .1 .1 .1 .1 .0)) = handed w64 (c .before .before .before .flag-value14 .ok) (c .before .before .before .flag-value14 .ensures) in
+    let track : _ ≡ pos (num (m .0 .1 .1 .1 .1 .1 .0)) = handed w64 (c .before .before .flag-value15 .ok) (c .before .before .flag-value15 .ensures) in
+    let off : _ ≡ pos (num (m .0 .1 .1 .1 .1 .1 .1 .0)) = handed w64 (c .before .flag-value16 .ok) (c .before .flag-value16 .ensures) in
+    let shift : _ ≡ pos (num (m .0 .1 .1 .1 .1 .1 .1 .1 .0)) = handed w64 (c .flag-value17 .ok) (c .flag-value17 .ensures) in
+    rw (
+      counted (m .0 .0) (search needs),
+      right,
+      counted (m .0 .1 .1 .0) (search needs),
+      auto,
+      vane,
+      track,
+      off,
+      shift,
+      widened (m .0 .1 .1 .1 .1 .1 .1 .1 .1 .0) (search needs),
+      counted (m .0 .1 .1 .1 .1 .1 .1 .1 .1 .1 .0) (search needs),
+      counted (m .0 .1 .1 .1 .1 .1 .1 .1 .1 .1 .1 .0) (search needs),
+      m .1,
+    )
 
 pub fields-of-spec : {M : Type 1} → statement M
 unfolding fieldsOf
@@ -51,7 +79,7 @@ fields-of-spec =
     (λ c. let m = c .before .before .m14 .given in rw (c .array14 .ensures, counted (m .0 .0) (search needs), m .1))
     (λ c. let m = c .before .before .m15 .given in rw (c .array15 .ensures, counted (m .0 .0) (search needs), counted (m .0 .1 .0) (search needs), counted (m .0 .1 .1 .0) (search needs), m .1))
     (λ c. let m = c .before .before .m16 .given in rw (c .array16 .ensures, counted (m .0 .0) (search needs), counted (m .0 .1 .0) (search needs), counted (m .0 .1 .1 .0) (search needs), m .1))
-    (λ c. let m = c .before .before .before .before .before .before .before .m17 .given in rw (counted (m .0 .0) (search needs), handed w64 (c .before .before .before .before .before .flag-value12 .ok) (c .before .before .before .before .before .flag-value12 .ensures), counted (m .0 .1 .1 .0) (search needs), handed w64 (c .before .before .before .before .flag-value13 .ok) (c .before .before .before .before .flag-value13 .ensures), handed w64 (c .before .before .before .flag-value14 .ok) (c .before .before .before .flag-value14 .ensures), handed w64 (c .before .before .flag-value15 .ok) (c .before .before .flag-value15 .ensures), handed w64 (c .before .flag-value16 .ok) (c .before .flag-value16 .ensures), handed w64 (c .flag-value17 .ok) (c .flag-value17 .ensures), widened (m .0 .1 .1 .1 .1 .1 .1 .1 .1 .0) (search needs), counted (m .0 .1 .1 .1 .1 .1 .1 .1 .1 .1 .0) (search needs), counted (m .0 .1 .1 .1 .1 .1 .1 .1 .1 .1 .1 .0) (search needs), m .1))
+    returns-17
     (λ c. let m = c .before .before .m18 .given in rw (c .array17 .ensures, counted (m .0 .0) (search needs), counted (m .0 .1 .0) (search needs), m .1))
     (λ c. let m = c .before .before .before .m19 .given in rw (c .array18 .ensures, counted (m .0 .0) (search needs), counted (m .0 .1 .0) (search needs), handed w64 (c .before .flag-value18 .ok) (c .before .flag-value18 .ensures), m .1))
     (λ c. let m = c .before .before .m20 .given in rw (c .array19 .ensures, widened (m .0 .0) (search needs), m .1))

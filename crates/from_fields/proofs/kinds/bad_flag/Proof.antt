@@ -2,10 +2,11 @@
 use borrow.Author.Needs.{needs}
 use mathlib.Core.Path.{_≡_, refl, _∙_}
 use mathlib.Core.Bool.{Bool, true, false, cond}
+use mathlib.Core.List.{[], _∷_}
 use Prim.Native.Nat.{ℕ}
 use lib.Dec.{leb, eqb}
 use Rattle.from_fields.specs.Numbers.{numbersOf}
-use Rattle.from_fields.specs.Naming.{flagsOf, natural}
+use Rattle.from_fields.specs.Naming.{flagsOf, badFlag, natural}
 use Rattle.from_fields.proofs.kinds.bad_flag.Statement.{statement}
 use Rattle.from_fields.proofs.kinds.bad_flag.Tie as tie
 
@@ -18,9 +19,9 @@ returns-17 : tie.Need-returns-17
 unfolding flagsOf
 returns-17 c =
     let zs = numbersOf (c .before .before .before .before .before .before .args .fields .now) in
-    c .first-flag .ensures
-    ∙ rw (c .before .before .first-bad6 .ensures, c .before .first-bad7 .ensures, c .before .before .before .enum-told17 .given .1)
-    (two-then (leb (natural zs 1) 1) _)
+    let early : _ ≡ badFlag (2 ∷ []) zs = c .before .before .first-bad6 .ensures in
+    let late : _ ≡ badFlag (4 ∷ 5 ∷ 6 ∷ 7 ∷ 8 ∷ []) zs = c .before .first-bad7 .ensures in
+    c .first-flag .ensures ∙ rw (early, late, c .before .before .before .enum-told17 .given .1) (two-then (leb (natural zs 1) 1) _)
 
 pub bad-flag-spec : {M : Type 1} → statement M
 unfolding flagsOf

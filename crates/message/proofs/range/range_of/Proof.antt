@@ -4,7 +4,7 @@ use mathlib.Core.Path.{_≡_, sym, ap, ap₂, _∙_}
 use lib.IntN.{pos, negℤ}
 use mir.Syntax.{w32}
 use mir.Val.{toZ, ofZ}
-use Rattle.message.specs.Range.{rangeOf, andThen, within}
+use Rattle.message.specs.Range.{rangeOf, atMost, andThen, within}
 use Rattle.message.proofs.range.range_of.Statement.{statement}
 use Rattle.message.proofs.range.range_of.Tie as tie
 
@@ -45,15 +45,14 @@ returns-17 c =
     let m = c .before .before .before .before .before .before .before .before .before .before .m17 .given in
     let z = m .0 .1 .1 .1 .1 .1 .1 .1 .1 .0 in
     let e : toZ w32 (ofZ w32 z) ≡ z = search needs in
-    c .first-of12 .ensures
-    ∙ ap₂ andThen (c .before .before .before .before .before .before .before .before .at-most22 .ensures)
-    (c .before .first-of11 .ensures
-    ∙ ap₂ andThen (c .before .before .before .before .before .before .before .at-most23 .ensures)
-    (c .before .before .first-of10 .ensures
-    ∙ ap₂ andThen (c .before .before .before .before .before .before .in-bounds2 .ensures ∙ ap (within 9 (negℤ (pos 128)) (pos 127)) e)
-    (c .before .before .before .first-of9 .ensures
-    ∙ ap₂ andThen (c .before .before .before .before .before .at-most24 .ensures) (c .before .before .before .before .at-most25 .ensures))))
-    ∙ sym (ap rangeOf (m .1))
+    let angle : _ ≡ atMost 1 359 (m .0 .0) = c .before .before .before .before .before .before .before .before .at-most22 .ensures in
+    let course : _ ≡ atMost 3 719 (m .0 .1 .1 .0) = c .before .before .before .before .before .before .before .at-most23 .ensures in
+    let rudder : _ ≡ within 9 (negℤ (pos 128)) (pos 127) (toZ w32 (ofZ w32 z)) = c .before .before .before .before .before .before .in-bounds2 .ensures in
+    let ss : _ ≡ atMost 10 255 (m .0 .1 .1 .1 .1 .1 .1 .1 .1 .1 .0) = c .before .before .before .before .before .at-most24 .ensures in
+    let tt : _ ≡ atMost 11 255 (m .0 .1 .1 .1 .1 .1 .1 .1 .1 .1 .1 .0) = c .before .before .before .before .at-most25 .ensures in
+    let last = c .before .before .before .first-of9 .ensures ∙ ap₂ andThen ss tt in
+    let later = c .before .before .first-of10 .ensures ∙ ap₂ andThen (rudder ∙ ap (within 9 (negℤ (pos 128)) (pos 127)) e) last in
+    c .first-of12 .ensures ∙ ap₂ andThen angle (c .before .first-of11 .ensures ∙ ap₂ andThen course later) ∙ sym (ap rangeOf (m .1))
 
 returns-18 : tie.Need-returns-18
 unfolding rangeOf

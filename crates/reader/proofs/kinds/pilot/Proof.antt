@@ -1,15 +1,15 @@
 -- `pilot` answers by the verdict of `angles_spelled`, which is the definition's; what is spelled right is in range, as a signed
 -- byte and bytes are.
 use borrow.Author.Needs.{needs}
-use mathlib.Core.Path.{_≡_, sym, _∙_}
-use mathlib.Core.Bool.{Bool}
+use mathlib.Core.Path.{_≡_, refl, sym, _∙_}
 use Prim.Native.Nat.{ℕ, _/_, _%_, _≤_, _<_}
 use native.Mathlib.Omega.{arith}
 use borrow.Author.Tests.{le-leb}
 use mir.Syntax.{w8, w32}
 use mir.Val.{Fits, toZ}
+use Rattle.number.specs.Word.{bit}
 use Rattle.number.proofs.Signed.{handed}
-use Rattle.angle.specs.Degree.{wholeAngle}
+use Rattle.angle.specs.Degree.{wholeAngle, turnsRight}
 use Rattle.angle.specs.Quarter.{quarterAngle}
 use Rattle.message.specs.declared.Message.the-variants.{Pilot}
 use Rattle.message.specs.declared.Verdict.the-variants.{InRange}
@@ -18,13 +18,13 @@ use Rattle.reader.proofs.Limits.{whole-fits, quarter-fits, signed-fits,
 use Rattle.reader.proofs.kinds.pilot.Statement.{statement}
 use Rattle.reader.proofs.kinds.pilot.Tie as tie
 
-in-range : (u vw xy : ℕ) {rr ss tt : ℕ} (right auto vane track off shift : Bool) → vw < 256 → Fits w8 rr → ss < 256 → tt < 256
-    → vw % 64 ≤ 44 → xy ≤ 179
-    → rangeOf (Pilot (wholeAngle u (vw % 64)) right (quarterAngle (vw / 64) xy) auto vane track off shift (toZ w8 rr) ss tt) ≡ InRange
+in-range : (u6 vw xy z m : ℕ) {rr : ℕ} (ss tt : ℕ) → vw < 256 → Fits w8 rr → ss < 256 → tt < 256 → vw % 64 ≤ 44 → xy ≤ 179
+    → rangeOf (Pilot (wholeAngle (u6 / 16) (vw % 64)) (turnsRight (u6 / 16)) (quarterAngle (vw / 64) xy)
+    (bit 2 z) (bit 4 z) (bit 8 z) (bit 4 m) (bit 8 m) (toZ w8 rr) ss tt) ≡ InRange
 unfolding rangeOf
-in-range u vw xy {rr} {ss} {tt} right auto vane track off shift hv hr hs ht six h =
+in-range u6 vw xy z m ss tt hv hr hs ht six h =
     rw (
-      whole-fits u (vw % 64),
+      whole-fits (u6 / 16) (vw % 64),
       quarter-fits (vw / 64) xy (omega arith) h,
       signed-fits hr,
       le-leb ss 255 (omega arith),
@@ -35,21 +35,20 @@ returns : tie.Need-returns
 returns c =
     let start = c .before .before .before .before .before .before .before in
     let a = start .args in
-    rw (
-      c .before .before .before .whole-angle .ensures,
-      c .before .before .turns-right .ensures,
-      c .before .quarter-angle .ensures,
-      handed w32 (c .signed-byte .ok) (c .signed-byte .ensures),
-    )
-    (by-spelling 3 (a .vw % 64) (a .xy) _ _ (sym (c .before .before .before .before .before .before .angles-spelled .ensures) ∙ c .before .before .before .before .enum-told .given .1)
-    (in-range (a .u6 / 16) (a .vw) (a .xy) _ _ _ _ _ _ (omega arith) (start .fits .rr) (omega arith) (omega arith)))
+    let verdict = sym (c .before .before .before .before .before .before .angles-spelled .ensures) ∙ c .before .before .before .before .enum-told .given .1 in
+    let said = in-range (a .u6) (a .vw) (a .xy) (a .z) (a .m) (a .ss) (a .tt) (omega arith) (start .fits .rr) (omega arith) (omega arith) in
+    let degrees : _ ≡ wholeAngle (a .u6 / 16) (a .vw % 64) = c .before .before .before .whole-angle .ensures in
+    let right : _ ≡ turnsRight (a .u6 / 16) = c .before .before .turns-right .ensures in
+    let course : _ ≡ quarterAngle (a .vw / 64) (a .xy) = c .before .quarter-angle .ensures in
+    let rudder : _ ≡ toZ w8 (a .rr) = handed w32 (c .signed-byte .ok) (c .signed-byte .ensures) in
+    rw (degrees, right, course, rudder, ← by-spelling 3 (a .vw % 64) (a .xy) _ _ verdict said) refl
 
 returns-2 : tie.Need-returns-2
 returns-2 c =
     let start = c .before .before .before .before in
     let a = start .args in
     by-spelling 3 (a .vw % 64) (a .xy) _ _ (sym (c .before .before .before .angles-spelled .ensures) ∙ c .before .r .given .1)
-    (in-range (a .u6 / 16) (a .vw) (a .xy) _ _ _ _ _ _ (omega arith) (start .fits .rr) (omega arith) (omega arith))
+    (in-range (a .u6) (a .vw) (a .xy) (a .z) (a .m) (a .ss) (a .tt) (omega arith) (start .fits .rr) (omega arith) (omega arith))
 
 pub pilot-spec : {M : Type 1} → statement M
 pilot-spec =
