@@ -14,19 +14,32 @@ ghost use Rattle.message.specs.Fields.{fieldsOf};
 ghost use Rattle.message.specs.Range.{rangeOf};
 ghost use Rattle.from_fields.specs.Numbers.{fieldsBytes, AllFit};
 ghost use Rattle.seatalk.specs.Returned.{returned, storedResult};
-ghost use Rattle.seatalk.specs.Read.{readCall};
+ghost use Rattle.seatalk.specs.Read.{readCall, Grown};
 
-// Stores the fields, 4 bytes each.
+// Stores the fields from..end behind those before them.
+fn store_part(f: Fields, from: usize, end: usize, result: &mut [u8])
+    requires { ⌜ (f .count ≤ 12) × ((4 * f .count ≤ length (now result)) × (AllFit (take (f .count) (f .values)) × ((from ≤ end) × (end ≤ f .count)))) ⌝ }
+    ensures { λ _. ⌜ Grown (f .values) from (now (result .entry)) end (now (result .exit)) ⌝ }
+{
+    let mut i = from;
+    while i < end {
+        put_long(result, 4 * i, number::bits_of(f.values[i] as i32));
+        i += 1;
+    }
+}
+
+// Stores the fields, 4 bytes each. In two loops, since the compiler keeps the fields in registers where a loop is short.
 fn store(f: Fields, result: &mut [u8])
     requires { ⌜ (f .count ≤ 12) × ((4 * f .count ≤ length (now result)) × AllFit (take (f .count) (f .values))) ⌝ }
     ensures { λ _. ⌜ now (result .exit) ≡ fieldsBytes (take (f .count) (f .values)) ++ drop (4 * f .count) (now (result .entry)) ⌝ }
 {
     let n = f.count as usize;
-    let mut i = 0;
-    while i < n {
-        put_long(result, 4 * i, number::bits_of(f.values[i] as i32));
-        i += 1;
+    if n <= 6 {
+        store_part(f, 0, n, result);
+        return;
     }
+    store_part(f, 0, 6, result);
+    store_part(f, 6, n, result);
 }
 
 // The fields of a message in range, or refusal 8.

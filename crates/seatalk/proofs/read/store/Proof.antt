@@ -1,90 +1,35 @@
--- `store` has laid out the first i fields after i iterations.
-use mathlib.Core.Path.{_≡_, refl, ap, _∙_}
-use mathlib.Core.List.{List, [], _∷_, _++_}
-use Prim.Native.Nat.{ℕ, zero, suc, _-_, _*_, _≤_, _<_}
-use native.Mathlib.Omega.{arith}
-use lib.IntN.{ℤ, pos}
-use lib.ListN.{length, getD, take, drop}
-use lib.Seq.{length-take-le, getD-take}
-use mir.Syntax.{w32, w64}
-use mir.Val.{SFits, toZ, ofZ}
-use mir.ValLaws.{toZ-ofZ}
-use Rattle.number.proofs.Signed.{wide}
-use Rattle.from_fields.specs.Numbers.{AllFit, fieldBytes, fieldsBytes}
-use Rattle.from_fields.proofs.Each.{front-length, one-more}
+-- `store` lays out all fields at once, or the first six and then the others.
 use borrow.Author.Needs.{needs}
+use mathlib.Core.Path.{_≡_, refl, _∙_}
+use native.Mathlib.Omega.{arith}
 use Rattle.seatalk.proofs.read.store.Statement.{statement}
 use Rattle.seatalk.proofs.read.store.Tie as tie
 
-fit-at : (zs : List ℤ) (i : ℕ) → AllFit zs → i < length zs → SFits w32 (getD zs i (pos 0))
-fit-at [] i fits h = absurd (omega arith)
-fit-at (z ∷ zs) zero fits h = fits .0
-fit-at (z ∷ zs) (suc i) fits h = fit-at zs i (fits .1) (omega arith)
+store-part-requires : tie.Need-store-part-requires
+store-part-requires c κs =
+    let p = c .before .before .before .before .pre in
+    (p .0, (p .1 .0, (p .1 .1, (omega arith, omega arith))))
 
--- a field among the first n
-fits : (zs : List ℤ) (n i : ℕ) → AllFit (take n zs) → i < n → n ≤ length zs → SFits w32 (getD zs i (pos 0))
-fits zs n i all h long =
-    let m : length (take n zs) ≡ n = length-take-le n zs long in
-    rw (getD-take n zs i (pos 0) h) at (fit-at (take n zs) i all (omega arith))
+returns : tie.Need-returns
+returns c = c .before .before .store-part .ensures _ refl refl
 
--- as the machine reads it back from its bits
-read-back : (z : ℤ) → SFits w32 z → toZ w64 (ofZ w64 z) ≡ z
-read-back z h = toZ-ofZ w64 z (wide z h)
+store-part-requires-2 : tie.Need-store-part-requires-2
+store-part-requires-2 c κs =
+    let p = c .before .before .before .before .pre in
+    (p .0, (p .1 .0, (p .1 .1, (omega arith, omega arith))))
 
-abbrev Inv-loop : tie.InvT-loop
-Inv-loop result₀ f n i₀ result i = (i ≤ f .count) × (result ≡ fieldsBytes (take i (f .values)) ++ drop (4 * i) result₀)
+store-part-requires-3 : tie.Need-store-part-requires-3
+store-part-requires-3 c κs =
+    let p = c .before .before .before .before .before .before .before .before .pre in
+    (p .0, (omega (arith, c .before .before .before .store-part2 .kept .1 .1 .1 .0), (p .1 .1, (omega arith, omega arith))))
 
-abbrev μ-loop : tie.MeasureT-loop
-μ-loop result₀ f n i₀ result i = f .count - i
-
-loop-holds : tie.Need-loop-holds Inv-loop μ-loop
-loop-holds c = (omega arith, refl)
-
-cast-bits-of : tie.Need-cast-bits-of Inv-loop μ-loop
-cast-bits-of c =
-    let w = c .before .before .before in
-    let f = w .before .before .args .t1 in
-    let long : length (f .values) ≡ 12 = search needs in
-    let h = fits (f .values) (f .count) (w .loop .i) (w .before .before .pre .1 .1) (omega arith) (omega arith) in
-    rw (read-back (getD (f .values) (w .loop .i) (pos 0)) h) h
-
-put-long-requires : tie.Need-put-long-requires Inv-loop μ-loop
-put-long-requires c κs =
-    let w = c .before .before .before .before in
-    let a = w .before .before .args in
-    let long : length (a .t1 .values) ≡ 12 = search needs in
-    let same : length (w .loop .result) ≡ length (a .result .now) = ap length (w .loop .inv .1) ∙ front-length fieldBytes 4 (λ z. refl) (a .t1 .values) (w .loop .i) (a .result .now) (omega arith) (omega arith) in
-    omega arith
-
-loop-again : tie.Need-loop-again Inv-loop μ-loop
-loop-again c =
-    let w = c .before .before .before .before .before .before .before in
-    let a = w .before .before .args in
-    let long : length (a .t1 .values) ≡ 12 = search needs in
-    let h = fits (a .t1 .values) (a .t1 .count) (w .loop .i) (w .before .before .pre .1 .1) (omega arith) (omega arith) in
-    let z = getD (a .t1 .values) (w .loop .i) (pos 0) in
-    let bits : c .before .before .before .bits-of .result ≡ ofZ w32 z = rw (read-back z h, toZ-ofZ w32 z h) at (c .before .before .before .bits-of .ensures) in (
-      omega arith,
-      rw (← one-more fieldBytes 4 (λ z. refl) (a .t1 .values) (w .loop .i) (a .result .now) (pos 0) (omega arith) (omega arith))
-          (rw (bits, w .loop .inv .1) at (c .before .before .put-long .ensures)),
-    )
-
-same-length : tie.Need-same-length Inv-loop μ-loop
-same-length c =
-    let w = c .before in
-    let a = w .before .before .args in
-    let long : length (a .t1 .values) ≡ 12 = search needs in
-    ap length (w .loop .inv .1) ∙ front-length fieldBytes 4 (λ z. refl) (a .t1 .values) (w .loop .i) (a .result .now) (omega arith) (omega arith)
-
-returns : tie.Need-returns Inv-loop μ-loop
-returns c =
-    let w = c .before in
-    let all : w .loop .i ≡ w .before .before .args .t1 .count = omega arith in
-    rw all at (w .loop .inv .1)
+returns-2 : tie.Need-returns-2
+returns-2 c =
+    let first = c .before .before .before .before .before .before .store-part2 in
+    c .before .before .store-part3 .ensures _ (first .kept .1 .1 .1 .0) (first .ensures _ refl refl)
 
 pub store-spec : {M : Type 1} → statement M
 store-spec =
     tie.close
-    (tie.spec Inv-loop μ-loop (λ c. search needs) loop-holds (λ c. search needs) (λ c. search needs) (λ c. search needs)
-    cast-bits-of (λ c κs. search needs) put-long-requires (λ c. search needs) (λ c. search needs) loop-again same-length
-    returns)
+    (tie.spec (λ c. search needs) store-part-requires (λ c. search needs) returns store-part-requires-2 store-part-requires-3
+    (λ c. search needs) returns-2)
