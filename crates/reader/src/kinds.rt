@@ -14,6 +14,8 @@ use number::negated_byte;
 use number::signed_byte;
 use number::word_of;
 ghost use mathlib.Core.Path.{_≡_};
+ghost use Rattle.number.specs.Word.{bit};
+ghost use Rattle.message.specs.declared.Message.the-variants.{Pilot};
 ghost use Rattle.message.specs.Decode.{depthOf, windAngleOf, windSpeedOf, speedOf, tripOf, totalOf, logsOf, speedsOf, waterOf, lampOf, latitudeOf, longitudeOf, groundOf, courseOf, timeOf, dateOf, pilotOf, keyOf, headingOf, variationOf, turnOf, sixOf};
 ghost use Rattle.message.specs.Range.{atMost, andThen};
 ghost use Rattle.message.specs.Reading.{judged};
@@ -231,20 +233,45 @@ pub fn pilot(u6: u8, vw: u8, xy: u8, z: u8, m: u8, rr: u8, ss: u8, tt: u8) -> Re
     ensures { λ r. ⌜ r ≡ judged (pilotOf u6 vw xy z m rr ss tt) ⌝ }
 {
     match angles_spelled(3, vw, xy) {
-        Verdict::InRange => Reading::Read(Message::Pilot {
-            degrees: whole_angle(u6 / 16, vw % 64),
-            right: turns_right(u6 / 16),
-            course: quarter_angle(vw / 64, xy),
-            auto: z / 2 % 2 == 1,
-            vane: z / 4 % 2 == 1,
-            track: z / 8 % 2 == 1,
-            off_course: m / 4 % 2 == 1,
-            wind_shift: m / 8 % 2 == 1,
-            rudder: signed_byte(rr),
-            ss: ss as u32,
-            tt: tt as u32,
-        }),
+        Verdict::InRange => Reading::Read(pilot_of(
+            whole_angle(u6 / 16, vw % 64),
+            turns_right(u6 / 16),
+            quarter_angle(vw / 64, xy),
+            z,
+            m,
+            signed_byte(rr),
+            ss,
+            tt,
+        )),
         Verdict::Refused(r) => Reading::Refused(r),
+    }
+}
+
+// A pilot with the modes of Z and the alarms of M.
+fn pilot_of(
+    degrees: u32,
+    right: bool,
+    course: u32,
+    z: u8,
+    m: u8,
+    rudder: i32,
+    ss: u8,
+    tt: u8,
+) -> Message
+    ensures { λ r. ⌜ r ≡ Pilot degrees right course (bit 2 z) (bit 4 z) (bit 8 z) (bit 4 m) (bit 8 m) rudder ss tt ⌝ }
+{
+    Message::Pilot {
+        degrees: degrees,
+        right: right,
+        course: course,
+        auto: z / 2 % 2 == 1,
+        vane: z / 4 % 2 == 1,
+        track: z / 8 % 2 == 1,
+        off_course: m / 4 % 2 == 1,
+        wind_shift: m / 8 % 2 == 1,
+        rudder: rudder,
+        ss: ss as u32,
+        tt: tt as u32,
     }
 }
 

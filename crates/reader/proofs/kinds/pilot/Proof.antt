@@ -1,7 +1,7 @@
 -- `pilot` answers by the verdict of `angles_spelled`, which is the definition's; what is spelled right is in range, as a signed
 -- byte and bytes are.
 use borrow.Author.Needs.{needs}
-use mathlib.Core.Path.{_≡_, refl, sym, _∙_}
+use mathlib.Core.Path.{_≡_, sym, _∙_}
 use Prim.Native.Nat.{ℕ, _/_, _%_, _≤_, _<_}
 use native.Mathlib.Omega.{arith}
 use borrow.Author.Tests.{le-leb}
@@ -33,15 +33,15 @@ in-range u6 vw xy z m ss tt hv hr hs ht six h =
 
 returns : tie.Need-returns
 returns c =
-    let start = c .before .before .before .before .before .before .before in
+    let start = c .before .before .before .before .before .before .before .before in
     let a = start .args in
-    let verdict = sym (c .before .before .before .before .before .before .angles-spelled .ensures) ∙ c .before .before .before .before .enum-told .given .1 in
-    let said = in-range (a .u6) (a .vw) (a .xy) (a .z) (a .m) (a .ss) (a .tt) (omega arith) (start .fits .rr) (omega arith) (omega arith) in
-    let degrees : _ ≡ wholeAngle (a .u6 / 16) (a .vw % 64) = c .before .before .before .whole-angle .ensures in
-    let right : _ ≡ turnsRight (a .u6 / 16) = c .before .before .turns-right .ensures in
-    let course : _ ≡ quarterAngle (a .vw / 64) (a .xy) = c .before .quarter-angle .ensures in
-    let rudder : _ ≡ toZ w8 (a .rr) = handed w32 (c .signed-byte .ok) (c .signed-byte .ensures) in
-    rw (degrees, right, course, rudder, ← by-spelling 3 (a .vw % 64) (a .xy) _ _ verdict said) refl
+    let verdict = sym (c .before .before .before .before .before .before .before .angles-spelled .ensures) ∙ c .before .before .before .before .before .enum-told .given .1 in
+    let fits = in-range (a .u6) (a .vw) (a .xy) (a .z) (a .m) (a .ss) (a .tt) (omega arith) (start .fits .rr) (omega arith) (omega arith) in
+    let degrees : _ ≡ wholeAngle (a .u6 / 16) (a .vw % 64) = c .before .before .before .before .whole-angle .ensures in
+    let right : _ ≡ turnsRight (a .u6 / 16) = c .before .before .before .turns-right .ensures in
+    let course : _ ≡ quarterAngle (a .vw / 64) (a .xy) = c .before .before .quarter-angle .ensures in
+    let rudder : _ ≡ toZ w8 (a .rr) = handed w32 (c .before .signed-byte .ok) (c .before .signed-byte .ensures) in
+    rw (c .pilot-of .ensures, degrees, right, course, rudder, ← by-spelling 3 (a .vw % 64) (a .xy) _ _ verdict fits)
 
 returns-2 : tie.Need-returns-2
 returns-2 c =
@@ -54,4 +54,4 @@ pub pilot-spec : {M : Type 1} → statement M
 pilot-spec =
     tie.close
     (tie.spec (λ c κs. search needs) (λ c. search needs) (λ c κs. search needs) (λ c κs. search needs)
-    (λ c κs. search needs) (λ c κs. search needs) (λ c. search needs) returns returns-2)
+    (λ c κs. search needs) (λ c κs. search needs) (λ c κs. search needs) (λ c. search needs) returns returns-2)
