@@ -148,12 +148,15 @@ def differs(broken_listing, data, got):
 def unseen(results):
     """What is broken without a difference to any of the results (name, recording, the program's text): small ones and
     those of every command; a rule of some kinds in the limits of each."""
-    limits = {name: [(data, got)] for name, data, got in results if name.startswith("limits")}
+    limits = {}
+    for name, data, got in results:
+        if name.startswith("limits"):
+            limits.setdefault(name.split()[2], []).append((data, got))
     others = [(data, got) for name, data, got in results if len(data) < 2000 or name.startswith("every")]
     missed = []
     for what, broken_listing in broken_listings():
         kinds = what.split(":")[0].split(", ") if ":" in what else []
-        places = [limits[f"limits of {kind}"] for kind in kinds] or [others]
+        places = [limits[kind] for kind in kinds] or [others]
         if not all(any(differs(broken_listing, data, got) for data, got in place) for place in places):
             missed.append(what)
     return missed

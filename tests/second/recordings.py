@@ -130,7 +130,7 @@ def limits(r, command):
     if command == 0x56:
         return [made(m, day, y) for m in range(16) for day in around(0, 31, 127, 254) for y in around(0, 99, 127, 254)]
     if command == 0x84:
-        angles = [made(u, vw, xy, *r.randbytes(5)) for u in range(16) for vw in every for xy in (179, 180)]
+        angles = [made(u, vw, any8() % 181, *r.randbytes(5)) for u in range(16) for vw in every]
         courses = [made(any4(), v << 6 | 44, xy, *r.randbytes(5)) for v in range(4) for xy in every]
         others = [made(any4(), v, any8() % 180, *(byte if place == n else any8() for n in range(5)))
                   for place in range(5) for byte in every for v in (0, 0xC0)]
@@ -197,10 +197,12 @@ def damaged_cases():
 
 
 def limit_cases():
-    """One recording for each kind's limits, one for every command with every length."""
+    """Recordings of a thousand datagrams for each kind's limits, one for every command with every length."""
     r = random.Random(3)
     for command in LENGTHS:
-        yield f"limits of {command:02X}", said(limits(r, command), WRAP - 100000)
+        datagrams = limits(r, command)
+        for at in range(0, len(datagrams), 1000):
+            yield f"limits of {command:02X} from {at}", said(datagrams[at:at + 1000], WRAP - 100000)
     yield "every command and length", said([any_bytes(r, command, low) for command in range(256) for low in range(16)])
     yield "every kind and length, 20 times", said([any_bytes(r, command, low) for command in LENGTHS
                                                    for low in range(16) for _ in range(20)])

@@ -1,4 +1,4 @@
-// A label and fields, by the shapes that the kinds have: numbers, and then flags.
+// A label and fields, by the shapes that the kinds have: which are numbers, which are flags, and in what order.
 use crate::put_bytes;
 use crate::put_flag;
 use crate::put_number;
