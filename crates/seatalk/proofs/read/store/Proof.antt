@@ -1,6 +1,6 @@
 -- `store` lays out all fields at once, or the first six and then the others.
 use borrow.Author.Needs.{needs}
-use mathlib.Core.Path.{_≡_, refl, _∙_}
+use mathlib.Core.Path.{refl}
 use native.Mathlib.Omega.{arith}
 use Rattle.seatalk.proofs.read.store.Statement.{statement}
 use Rattle.seatalk.proofs.read.store.Tie as tie
