@@ -218,6 +218,7 @@ rules! {
     WriteSeconds: "54: the seconds' high bits are not written",
     WritePilotLeft: "84: the way of turning is not written",
     WritePilotNorth: "84: north turning right is written in the first quarter",
+    WritePilotOneDegree: "84: one degree of 360, turning right, is written as the one before",
     WritePilotHalfAngle: "84: the heading is written as the angle of 53 and 89",
     WritePilotLength: "84: the length is written as 5",
     WriteCourseWithoutV: "84: the course's quarter is not written",
@@ -233,6 +234,7 @@ rules! {
     WriteVariation: "99: written west positive",
     WriteEvenRight: "9C: an even degree turning right is written as turning left",
     WriteNorthRight: "9C: north turning right is written in the first quarter",
+    WriteTurnOneDegree: "9C: one degree of 360, turning left, is written as the one before",
     // The recording writer.
     RecordMarkSwapped: "the mark's two bytes are swapped",
     RecordMarkSecond: "the mark's second byte is 53",

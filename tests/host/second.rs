@@ -752,6 +752,9 @@ impl Second {
                 if self.is(WriteNorthRight) && right && f[0] == 0 {
                     (u, six) = (0xC, 0);
                 }
+                if self.is(WriteTurnOneDegree) && !right && f[0] == 271 {
+                    (u, six) = self.whole(270, right);
+                }
                 put(&[digits(u, 1), six, low(f[2])]);
             }
         }
@@ -771,6 +774,7 @@ impl Second {
         let (u, six) = match self.rule {
             Some(WritePilotLeft) => self.whole(degrees, false),
             Some(WritePilotNorth) if right && degrees == 0 => (0xC, 0),
+            Some(WritePilotOneDegree) if right && degrees == 271 => self.whole(270, right),
             Some(WritePilotHalfAngle) => self.halves[(2 * degrees).rem_euclid(720) as usize],
             _ => self.whole(degrees, right),
         };

@@ -52,7 +52,7 @@ wholeReads right d = eqb (wholeAngle (wholeDigits d right .u) (wholeDigits d rig
 keepsWay : Bool → ℕ → Bool
 keepsWay right d = Bool·beq (turnsRight (wholeDigits d right .u)) right
 
-same-way : (a b : Bool) → T (Bool·beq a b) → a ≡ b
+pub same-way : (a b : Bool) → T (Bool·beq a b) → a ≡ b
 same-way true true t = refl
 same-way true false t = absurd t
 same-way false true t = absurd t

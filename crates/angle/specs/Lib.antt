@@ -1,3 +1,4 @@
 pub mod Half
 pub mod Degree
+pub mod Spellings
 pub mod Quarter

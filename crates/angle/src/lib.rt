@@ -1,10 +1,14 @@
 // Compass angles and their spelling on the bus: half degrees (53, 89), whole degrees with the turning way (9C, 84), and half
 // degrees by quarters (89, 84).
+mod spellings;
+
+use spellings::spelling_at;
 ghost use mathlib.Core.Path.{_≡_};
+ghost use Prim.Native.Nat.{_%_};
 ghost use Rattle.angle.specs.Half.{halfAngle, halfDigits};
-ghost use Rattle.angle.specs.Degree.{wholeAngle, turnsRight, wholeDigits, digitsFrom};
+ghost use Rattle.angle.specs.Degree.{wholeAngle, turnsRight, wholeDigits};
+ghost use Rattle.angle.specs.Spellings.{indexOf};
 ghost use Rattle.angle.specs.Quarter.{quarterAngle, quarterDigits};
-ghost use Prim.Native.Nat.{_≤_};
 
 // The digit U and the six low bits of VW that spell an angle.
 pub struct Digits {
@@ -49,24 +53,36 @@ pub fn turns_right(u: u8) -> bool
     u / 8 % 2 == 1
 }
 
-// The spelling of whole degrees with the turning way.
+// The spelling of whole degrees with the turning way, from the list.
 pub fn whole_digits(degrees: u32, right: bool) -> Digits
     ensures { λ r. ⌜ r ≡ wholeDigits degrees right ⌝ }
 {
-    if right {
-        digits_from((degrees % 360 + 359) % 360, 8)
-    } else {
-        digits_from(degrees % 360, 0)
+    let spelling = spelling_at(index_of(degrees, right));
+    Digits {
+        u: (spelling / 256) as u8,
+        six: (spelling % 256) as u8,
     }
 }
 
-fn digits_from(degrees: u32, high: u8) -> Digits
-    requires { ⌜ high ≤ 8 ⌝ }
-    ensures { λ r. ⌜ r ≡ digitsFrom degrees high ⌝ }
+// Where the list has a degree with its turning way.
+fn index_of(degrees: u32, right: bool) -> u32
+    ensures { λ r. ⌜ r ≡ indexOf degrees right ⌝ }
 {
-    Digits {
-        u: (degrees / 90 % 4 + 4 * (degrees % 2)) as u8 + high,
-        six: (degrees % 90 / 2) as u8,
+    if right {
+        in_circle(degrees) + 360
+    } else {
+        in_circle(degrees)
+    }
+}
+
+// A number of degrees modulo 360, without a division where it is below.
+fn in_circle(degrees: u32) -> u32
+    ensures { λ r. ⌜ r ≡ degrees % 360 ⌝ }
+{
+    if degrees < 360 {
+        degrees
+    } else {
+        degrees % 360
     }
 }
 

@@ -1,3 +1,4 @@
 pub mod Finite
+pub mod Arms
 pub mod Signed
 pub mod Longs

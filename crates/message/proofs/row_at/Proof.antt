@@ -1,21 +1,11 @@
 -- `row_at` gives each number below 21 the table's row at that index, and any other none: the table has 21 rows.
 use borrow.Author.Needs.{needs}
-use mathlib.Core.Path.{_≡_, refl, sym, ap}
-use native.Mathlib.Omega.{arith}
-use Prim.Native.Nat.{ℕ, zero, suc, _≤_}
+use mathlib.Core.Path.{refl, sym, ap}
 use lib.ListN.{drop-of-length-le}
+use Rattle.number.proofs.Arms.{skipped}
 use Rattle.message.specs.Table.{kinds, rowAt, first}
 use Rattle.message.proofs.row_at.Statement.{statement}
 use Rattle.message.proofs.row_at.Tie as tie
-
--- the index is none of the first n, in the form in which a `match` tells that no arm was taken
-abbrev Skipped : ℕ → ℕ → Type 0
-Skipped zero index = Unit
-Skipped (suc n) index = Skipped n index × (index ≡ n → ⊥)
-
-skipped : (n index : ℕ) → Skipped n index → n ≤ index
-skipped zero index s = omega arith
-skipped (suc n) index s = let before = skipped n index (s .0) in omega (arith, before, s .1)
 
 pub row-at-spec : {M : Type 1} → statement M
 unfolding kinds rowAt
