@@ -10,7 +10,7 @@ use Rattle.angle.specs.Spellings.{readsBack, firstFault}
 use Rattle.angle.proofs.spellings.spelling_at.Statement.{statement}
 use Rattle.angle.proofs.spellings.spelling_at.Tie as tie
 
--- number n of a list that is counted from k on stands i places behind its first
+-- number n of a list that is counted from k on stands at the index i
 before-fault : (k : ℕ) (es : List ℕ) (n i : ℕ) → n ≡ k + i → n < firstFault k es → readsBack n (getD es i 0) ≡ true
 unfolding firstFault
 before-fault k [] n i e h = absurd (omega (arith, e, h))
