@@ -11,14 +11,14 @@ ghost use Rattle.angle.specs.Quarter.{quarter_angle, quarter_digits};
 use spellings::spelling_at;
 
 // The digit U and the six low bits of VW that spell an angle.
-#[derive(Drop)]
+#[derive(Clone, Copy)]
 pub struct Digits {
     pub u: u8,
     pub six: u8,
 }
 
 // The two high bits of VW, and XY, that spell half degrees by quarters.
-#[derive(Drop)]
+#[derive(Clone, Copy)]
 pub struct Quarter {
     pub quarter: u8,
     pub xy: u8,

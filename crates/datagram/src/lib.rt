@@ -6,14 +6,14 @@ ghost use Rattle.datagram.specs.Padding.{all_zero, word_from};
 ghost use Rattle.datagram.specs.Whole.{whole};
 
 // A refusal's number and its place; module `refusals` has them all.
-#[derive(Drop)]
+#[derive(Clone, Copy)]
 pub struct Refusal {
     pub number: u8,
     pub place: u64,
 }
 
 // What storing in a lent buffer answers: how many numbers were stored, or the refusal.
-#[derive(Drop)]
+#[derive(Clone, Copy)]
 pub enum Written {
     Wrote(usize),
     Refused(Refusal),

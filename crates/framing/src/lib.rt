@@ -9,7 +9,7 @@ use recording::Record;
 
 // What the records ahead give to a listener that holds nothing: how many they are, how many bytes they hand out, the time of
 // the last of them, and what else is counted. None is used where they have to be heard one by one.
-#[derive(Drop)]
+#[derive(Clone, Copy)]
 pub struct Gathered {
     pub used: usize,
     pub count: usize,
@@ -20,7 +20,7 @@ pub struct Gathered {
 
 // What one record gave: the progress after it, its time, and the bytes that it handed out. None is used at the end, or
 // where the record is refused.
-#[derive(Drop)]
+#[derive(Clone, Copy)]
 pub struct HeardRecord {
     pub progress: Progress,
     pub used: usize,

@@ -12,7 +12,7 @@ use message::range::range_of;
 use message::{Kind, Lookup, Message, Verdict};
 
 // What a command and its fields name.
-#[derive(Drop)]
+#[derive(Clone, Copy)]
 pub enum Naming {
     Named(Message),
     Refused(Refusal),

@@ -7,14 +7,14 @@ use datagram::Refusal;
 use datagram::refusals::{NOT_SOUND, SYMBOL_ABOVE};
 
 // What is held of the datagram that is being heard: `held` bytes, and zeros past them.
-#[derive(Drop)]
+#[derive(Clone, Copy)]
 pub struct Listener {
     pub bytes: [u8; 17],
     pub held: u8,
 }
 
 // The answer to one symbol.
-#[derive(Drop)]
+#[derive(Clone, Copy)]
 pub enum Answer {
     Opened,
     Cancelled,
@@ -25,7 +25,7 @@ pub enum Answer {
 }
 
 // One call's outcome. `bytes` holds the `count` bytes handed out, and zeros.
-#[derive(Drop)]
+#[derive(Clone, Copy)]
 pub struct Heard {
     pub answer: Answer,
     pub listener: Listener,

@@ -12,7 +12,7 @@ use framing::{gather, hear_record};
 use progress::{Progress, Stop, tally};
 
 // What was put: the position after it, and the digits that are kept.
-#[derive(Drop)]
+#[derive(Clone, Copy)]
 struct Entry {
     end: usize,
     stamp: Stamp,

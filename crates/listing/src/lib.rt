@@ -15,7 +15,7 @@ use datagram::Refusal;
 use progress::{Progress, Stop};
 
 // A block's outcome: the progress, the bytes of input that were listed, and the bytes of text put.
-#[derive(Drop)]
+#[derive(Clone, Copy)]
 pub struct Listed {
     pub progress: Progress,
     pub used: usize,
@@ -24,7 +24,7 @@ pub struct Listed {
 }
 
 // The digits that are kept from line to line: of how many ten thousands, and how many they are.
-#[derive(Drop)]
+#[derive(Clone, Copy)]
 struct Stamp {
     leading: u32,
     count: usize,

@@ -8,7 +8,7 @@ ghost use Rattle.message.specs.Fields.{kind_of, command_of};
 use datagram::Refusal;
 
 // A kind of message, by its row in the table of rules 4.2.
-#[derive(Drop)]
+#[derive(Clone, Copy)]
 pub enum Kind {
     Depth,
     WindAngle,
@@ -34,7 +34,7 @@ pub enum Kind {
 }
 
 // A message: its kind, and its fields in table order.
-#[derive(Drop)]
+#[derive(Clone, Copy)]
 pub enum Message {
     Depth {
         tenths: u32,
@@ -136,21 +136,21 @@ pub enum Message {
 }
 
 // What reading a datagram gives.
-#[derive(Drop)]
+#[derive(Clone, Copy)]
 pub enum Reading {
     Read(Message),
     Refused(Refusal),
 }
 
 // Whether a message's fields are in range, or the refusal of the first that is not.
-#[derive(Drop)]
+#[derive(Clone, Copy)]
 pub enum Verdict {
     InRange,
     Refused(Refusal),
 }
 
 // A row of the table: the command, the whole length and the kind.
-#[derive(Drop)]
+#[derive(Clone, Copy)]
 pub struct Row {
     pub command: u8,
     pub length: u8,
@@ -158,7 +158,7 @@ pub struct Row {
 }
 
 // What looking a command up gives.
-#[derive(Drop)]
+#[derive(Clone, Copy)]
 pub enum Lookup {
     Found(Row),
     Unknown,

@@ -8,7 +8,7 @@ use listener::{Answer, Heard, Listener};
 use recording::Record;
 
 // What is carried from block to block: the listener, and how many answers of each counted sort it gave.
-#[derive(Drop)]
+#[derive(Clone, Copy)]
 pub struct Progress {
     pub listener: Listener,
     pub handed: u64,
@@ -17,7 +17,7 @@ pub struct Progress {
 }
 
 // Whether the listing goes on, or a record was refused.
-#[derive(Drop)]
+#[derive(Clone, Copy)]
 pub enum Stop {
     Running,
     Stopped(Refusal),

@@ -7,7 +7,7 @@ use datagram::refusals::{cut_short, no_mark, symbol_above_at};
 use number::{long_of, word_of};
 
 // What stands at an offset of a recording.
-#[derive(Drop)]
+#[derive(Clone, Copy)]
 pub enum Record {
     Heard { time: u32, symbol: u16 },
     End,

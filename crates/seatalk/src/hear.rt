@@ -9,7 +9,7 @@ use datagram::refusals::{NO_ROOM, NOT_SOUND, SYMBOL_ABOVE};
 use listener::{Answer, Heard, Listener};
 
 // An answer by its number (rules 11.2), or the refusal.
-#[derive(Drop)]
+#[derive(Clone, Copy)]
 pub enum Numbered {
     Number(u8),
     Refused(Refusal),

@@ -11,7 +11,7 @@ use datagram::refusals::{BAD_WAIT_OR_LIMIT, NOT_SOUND, NOT_WHOLE, SYMBOL_ABOVE};
 pub const DEFAULT_WAIT: u8 = 10;
 
 // What a sender is doing, by number as rules 7.3 has it.
-#[derive(Drop)]
+#[derive(Clone, Copy)]
 pub enum Phase {
     Waiting,
     Awaiting,
@@ -21,7 +21,7 @@ pub enum Phase {
 
 // A datagram on its way: 18 bytes with zeros past it, the position of the symbol whose echo is awaited, the wait before a
 // start, the limit of attempts, and the failures so far.
-#[derive(Drop)]
+#[derive(Clone, Copy)]
 pub struct Sender {
     pub phase: Phase,
     pub datagram: [u8; 18],
@@ -32,7 +32,7 @@ pub struct Sender {
 }
 
 // What a poll or an echo answers.
-#[derive(Drop)]
+#[derive(Clone, Copy)]
 pub enum Answer {
     // So many bit times are left to wait.
     Wait(u32),
@@ -50,21 +50,21 @@ pub enum Answer {
 }
 
 // One call's outcome.
-#[derive(Drop)]
+#[derive(Clone, Copy)]
 pub struct Outcome {
     pub answer: Answer,
     pub sender: Sender,
 }
 
 // Whether an offer was accepted.
-#[derive(Drop)]
+#[derive(Clone, Copy)]
 pub enum Verdict {
     Accepted,
     Refused(Refusal),
 }
 
 // An offer's outcome: the sender, all zero where the offer was refused.
-#[derive(Drop)]
+#[derive(Clone, Copy)]
 pub struct Offered {
     pub verdict: Verdict,
     pub sender: Sender,

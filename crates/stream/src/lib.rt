@@ -12,7 +12,7 @@ use progress::{Progress, Stop, end_of, placed_from};
 
 // What a pass gives: the progress, the offset of the buffer's first byte in the whole recording, how many bytes at its front
 // are not listed yet, how many bytes of text were put, and whether a record was refused.
-#[derive(Drop)]
+#[derive(Clone, Copy)]
 pub struct Pass {
     pub progress: Progress,
     pub base: u64,

@@ -7,7 +7,7 @@ ghost use Rattle.to_fields.specs.Array.{array_of};
 use message::Message;
 
 // The first `count` of `values` are the fields, flags 0 or 1; the rest are 0.
-#[derive(Drop)]
+#[derive(Clone, Copy)]
 pub struct Fields {
     pub values: [i64; 12],
     pub count: u8,

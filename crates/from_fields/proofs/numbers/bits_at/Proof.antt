@@ -12,7 +12,7 @@ returns c = let a = c.before.before.args in sym (past a.fields.now a.i (omega ar
 returns-2 : tie.Need-returns-2
 returns-2 c =
     let a = c.before.before.before.before.before.before.before.args in
-    rw c.Long-of.ensures (sym (within a.fields.now a.i (omega arith)))
+    rw c.long_of.ensures (sym (within a.fields.now a.i (omega arith)))
 
 pub bits_at_spec : {M : Type 1} → statement M
 bits_at_spec =

@@ -1,0 +1,71 @@
+-- `extended` finds the declared length reached exactly where the definition does, and else stores the byte after those held.
+use borrow.Author.Rules.{rules}
+use Prim.Native.Nat.{ℕ, ◌+◌, ◌<◌}
+use mathlib.Core.Path.{◌≡◌, refl, ◌∙◌, ap}
+use mathlib.Core.List.{List, [], ◌∷◌, ◌++◌}
+use native.Mathlib.Omega.{arith}
+use lib.Dec.{eqb}
+use lib.ListN.{length, get_or, set, length-append}
+use borrow.Author.Tests.{eq-eqb, ne_eqb}
+use Rattle.datagram.specs.Whole.{declared}
+use Rattle.datagram.specs.Padding.{pad_to}
+use Rattle.datagram.proofs.Padding.{set_pad, get_d_pad}
+use Rattle.listener.specs.declared.Listener.{Listener}
+use Rattle.listener.specs.declared.Answer.TheVariants.{Kept}
+use Rattle.listener.specs.State.{held_bytes, holding}
+use Rattle.listener.specs.Step.{other_symbol, quiet, handed}
+use Rattle.listener.proofs.Sound.{held_by, Held}
+use Rattle.listener.proofs.Started.{other_reaches}
+use Rattle.listener.proofs.extended.Goals as goal
+use Rattle.listener.proofs.extended.Goals.{Start}
+
+-- the new byte changes what is declared only as the second, and two bytes are fewer than any declared length
+same_test : (xs : List ℕ) (b : ℕ) → eqb (length (xs ++ (b ∷ []))) (declared (get_or (xs ++ (b ∷ [])) 1 0)) ≡ eqb (length xs + 1) (declared (get_or xs 1 0))
+same_test [] b = refl
+same_test (x ∷ []) b = rw (ne_eqb 2 (declared b) (λ e. omega arith))
+same_test (x ∷ y ∷ xs) b = simp length-append
+
+module _ (l : Listener) (b : ℕ) (k : Held l) where
+  test : eqb (length (held_bytes l ++ (b ∷ []))) (declared (get_or (held_bytes l ++ (b ∷ [])) 1 0)) ≡ eqb (l.held + 1) (declared (get_or l.bytes 1 0))
+  test =
+      let second : get_or l.bytes 1 0 ≡ get_or (held_bytes l) 1 0 = ap (λ (xs : List ℕ). get_or xs 1 0) k.array ∙ get_d_pad 17 1 (held_bytes l) in
+      same_test (held_bytes l) b ∙ rw (k.count, second)
+
+  next : l.held < 17 → ◌≡◌ {A = Listener} (record { bytes = set l.bytes l.held b; held = l.held + 1 }) (holding (held_bytes l ++ (b ∷ [])))
+  next h =
+      let bytes : set l.bytes l.held b ≡ pad_to 17 (held_bytes l ++ (b ∷ [])) =
+      ap (λ (xs : List ℕ). set xs l.held b) k.array ∙ set_pad 17 (held_bytes l) l.held b k.count h in
+      let count : length (held_bytes l ++ (b ∷ [])) ≡ l.held + 1 = simp (length-append, k.count) in
+      rw (bytes, count)
+
+  hands_out : 0 < l.held → l.held + 1 ≡ declared (get_or l.bytes 1 0) → handed (held_bytes l ++ (b ∷ [])) ≡ other_symbol (held_bytes l) b
+  hands_out some at_end =
+      rw (other_reaches (held_bytes l) b (omega arith), test, eq-eqb (l.held + 1) (declared (get_or l.bytes 1 0)) at_end)
+
+  keeps : 0 < l.held → (l.held + 1 ≡ declared (get_or l.bytes 1 0) → ⊥) → quiet Kept (record { bytes = set l.bytes l.held b; held = l.held + 1 }) ≡ other_symbol (held_bytes l) b
+  keeps some before-end =
+      rw (other_reaches (held_bytes l) b (omega arith), test, ne_eqb (l.held + 1) (declared (get_or l.bytes 1 0)) before-end)
+      (ap (λ (s : Listener). quiet Kept s) (next (omega (arith, k))))
+
+known : (c : goal.Start) → Held c.args.l
+known c = held_by c.args.l (search rules) c.requires.0
+
+pub overflow_add-held : goal.overflow_add-held
+overflow_add-held c = omega (arith, known (goal.at.overflow_add-held c).Start)
+
+pub handed_out-requires : goal.handed_out-requires
+handed_out-requires c = omega (arith, known (goal.at.handed_out-requires c).Start)
+
+pub returns-then-held-l : goal.returns-then-held-l
+returns-then-held-l c =
+    c.handed_out.ensures ∙ hands_out c.args.l c.args.byte (known (goal.at.returns-then-held-l c).Start) c.requires.1 (omega arith)
+
+pub bounds-next-at : goal.bounds-next-at
+bounds-next-at c = omega (arith, known (goal.at.bounds-next-at c).Start)
+
+pub overflow_add-next : goal.overflow_add-next
+overflow_add-next c = omega (arith, known (goal.at.overflow_add-next c).Start)
+
+pub returns : goal.returns
+returns c =
+    c.without_bytes.ensures ∙ keeps c.args.l c.args.byte (known (goal.at.returns c).Start) c.requires.1 c.if-held-l.false
