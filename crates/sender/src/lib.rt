@@ -249,7 +249,7 @@ fn padded(bytes: &[u8]) -> [u8; 18]
     ensures { result ≡ pad_to 18 bytes.now }
 {
     let mut out = [0u8; 18];
-    bytes::copy(bytes, &mut out);
+    out[..bytes.len()].copy_from_slice(bytes);
     out
 }
 

@@ -49,12 +49,6 @@ loop-i-preserved c =
           ∙ one_more times symbols a.part.now i c.requires (omega arith) (omega arith),
     )
 
-same_length : tie.Need-same-length invariant-loop decreases-loop
-same_length c =
-    let w = c.before in
-    let a = w.before.before.before.before.before.args in
-    kept a.times.now a.symbols.now a.part.now w.loop.part w.loop.i w.before.before.before.before.before.requires (omega arith) w.loop.invariant.1 (omega arith)
-
 pub returns : goal.returns
 returns c =
     let a = c.args in

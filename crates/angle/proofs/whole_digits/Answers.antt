@@ -1,5 +1,4 @@
 -- `whole_digits` takes the number at the degree's index. It reads back as that degree and turning way, which have one spelling.
-use borrow.Author.Rules.{rules}
 use mathlib.Core.Path.{◌≡◌, ap, ap₂, sym, subst, ◌∙◌}
 use mathlib.Core.Bool.{Bool, true, false}
 use Prim.Native.Nat.{ℕ, ◌+◌, ◌/◌, ◌%◌, ◌<◌}
@@ -10,8 +9,7 @@ use Rattle.number.proofs.Finite.{both_left, both_right}
 use Rattle.angle.specs.Degree.{whole_angle, turns_right, whole_digits, digits_from}
 use Rattle.angle.specs.Spellings.{index_of, are_digits, read_as, reads_back}
 use Rattle.angle.proofs.Laws.{whole_spells, same_way}
-use Rattle.angle.proofs.whole_digits.Statement.{statement}
-use Rattle.angle.proofs.whole_digits.Tie as tie
+use Rattle.angle.proofs.whole_digits.Goals as goal
 
 -- the index is in the list, and of this degree and turning way
 below : (degrees : ℕ) (right : Bool) → index_of degrees right < 720
@@ -44,17 +42,12 @@ spelled degrees right e q =
     ∙ ap₂ whole_digits (degree ∙ own_degree degrees right) (way ∙ own_way degrees right)
     ∙ around degrees right
 
-spelling-at-requires : tie.Need-spelling-at-requires
-spelling-at-requires c κs =
-    omega (arith, below c.before.args.degrees c.before.args.right, c.index_of.ensures)
+pub spelling_at-spelling-requires : goal.spelling_at-spelling-requires
+spelling_at-spelling-requires c =
+    omega (arith, below c.args.degrees c.args.right, c.index_of.ensures)
 
-returns : tie.Need-returns
+pub returns : goal.returns
 returns c =
-    let a = c.before.before.args in
-    let e = c.spelling-at.result in
-    spelled a.degrees a.right e (ap (λ (k : ℕ). reads_back k e) (sym c.before.index_of.ensures) ∙ c.spelling-at.ensures)
-
-pub whole_digits_spec : {M : Type 1} → statement M
-whole_digits_spec =
-    tie.close
-    (tie.spec (λ c κs. search rules) spelling-at-requires (λ c. search rules) (λ c. search rules) returns)
+    let a = c.args in
+    let e = c.spelling_at-spelling.result in
+    spelled a.degrees a.right e (ap (λ (k : ℕ). reads_back k e) (sym c.index_of.ensures) ∙ c.spelling_at-spelling.ensures)

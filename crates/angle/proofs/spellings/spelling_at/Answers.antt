@@ -1,5 +1,4 @@
 -- `spelling_at` takes a number of the list, and each before the first fault, which is none of the 720, reads back.
-use borrow.Author.Rules.{rules}
 use mathlib.Core.Path.{◌≡◌, refl, ap, ◌∙◌}
 use mathlib.Core.Bool.{Bool, true, false, cond}
 use mathlib.Core.List.{List, [], ◌∷◌}
@@ -7,8 +6,7 @@ use Prim.Native.Nat.{ℕ, zero, suc, ◌+◌, ◌<◌}
 use native.Mathlib.Omega.{arith}
 use lib.ListN.{get_or}
 use Rattle.angle.specs.Spellings.{reads_back, first_fault}
-use Rattle.angle.proofs.spellings.spelling_at.Statement.{statement}
-use Rattle.angle.proofs.spellings.spelling_at.Tie as tie
+use Rattle.angle.proofs.spellings.spelling_at.Goals as goal
 
 -- number n of a list that is counted from k on stands at the index i
 before_fault : (k : ℕ) (es : List ℕ) (n i : ℕ) → n ≡ k + i → n < first_fault k es → reads_back n (get_or es i 0) ≡ true
@@ -23,12 +21,9 @@ before_fault k (x ∷ xs) n i e h = go (reads_back k x) refl i e h (before_fault
     go true q (suc i) e h later = later i (omega (arith, e)) h
     go false q i e h later = absurd (omega (arith, e, h))
 
-returns : tie.Need-returns
+pub returns : goal.returns
 returns c =
-    let list = c.before.spelling-list.result in
-    let index = c.before.before.args.index in
+    let list = c.spelling_list.result in
+    let index = c.args.index in
     ap (reads_back index) c.number_at.ensures
-    ∙ before_fault 0 list index index (omega arith) (omega (arith, c.before.spelling-list.ensures, c.before.before.requires))
-
-pub spelling_at_spec : {M : Type 1} → statement M
-spelling_at_spec = tie.close (tie.spec (λ c κs. search rules) (λ c κs. search rules) returns)
+    ∙ before_fault 0 list index index (omega arith) (omega (arith, c.spelling_list.ensures, c.requires))
