@@ -1,4 +1,6 @@
 // The kinds of message: their fields, their table, and what a field out of range gets.
+#![tactic(auto)]
+
 pub mod range;
 
 ghost use Rattle.std.specs.Prelude.{◌≡◌};
@@ -322,6 +324,7 @@ fn index_of(command: u8) -> usize
 
 // The row of a number. Each index is a constant, so that the compiler lays no table out in memory: of the search and this
 // it leaves one jump by the command.
+#[tactic(auto, unfolding(crate::specs::Table::kinds, crate::specs::Table::row_at))]
 fn row_at(index: usize) -> Lookup
     ensures { result ≡ row_at index }
 {
@@ -389,6 +392,7 @@ pub fn row_of(kind: Kind) -> Row
 }
 
 // The kind of a message.
+#[tactic(auto, unfolding(crate::specs::Fields::kind_of))]
 pub fn kind_of(m: Message) -> Kind
     ensures { result ≡ kind_of m }
 {

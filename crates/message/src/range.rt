@@ -48,6 +48,7 @@ fn first_of(first: Verdict, later: Verdict) -> Verdict
 }
 
 // Whether the fields are in range, or the refusal of the first that is not.
+#[tactic(auto, unfolding(crate::specs::Range::range_of))]
 pub fn range_of(m: Message) -> Verdict
     ensures { result ≡ range_of m }
 {
