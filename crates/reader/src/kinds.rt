@@ -12,6 +12,7 @@ use datagram::refusals::{BAD_REPEAT, out_of_range};
 use message::{Message, Reading, Verdict};
 use number::{difference, negated_byte, signed_byte, word_of};
 
+#[tactic(auto, unfolding(message::specs::Range::range_of))]
 pub fn depth(yz: u8, low: u8, high: u8) -> Reading
     ensures { result ≡ judged (depth_of yz low high) }
 {
@@ -25,6 +26,7 @@ pub fn depth(yz: u8, low: u8, high: u8) -> Reading
     })
 }
 
+#[tactic(auto, unfolding(message::specs::Range::range_of))]
 pub fn wind_angle(xx: u8, yy: u8) -> Reading
     ensures { result ≡ judged (wind_angle_of xx yy) }
 {
@@ -35,6 +37,7 @@ pub fn wind_angle(xx: u8, yy: u8) -> Reading
     Reading::Read(Message::WindAngle { halves: halves })
 }
 
+#[tactic(auto, unfolding(message::specs::Range::range_of))]
 pub fn wind_speed(xx: u8, y: u8) -> Reading
     ensures { result ≡ judged (wind_speed_of xx y) }
 {
@@ -48,6 +51,7 @@ pub fn wind_speed(xx: u8, y: u8) -> Reading
     }
 }
 
+#[tactic(auto, unfolding(message::specs::Range::range_of))]
 pub fn speed(low: u8, high: u8) -> Reading
     ensures { result ≡ judged (speed_of low high) }
 {
@@ -56,6 +60,7 @@ pub fn speed(low: u8, high: u8) -> Reading
     })
 }
 
+#[tactic(auto, unfolding(message::specs::Range::range_of))]
 pub fn trip(low: u8, high: u8, x: u8) -> Reading
     ensures { result ≡ judged (trip_of low high x) }
 {
@@ -64,6 +69,7 @@ pub fn trip(low: u8, high: u8, x: u8) -> Reading
     })
 }
 
+#[tactic(auto, unfolding(message::specs::Range::range_of))]
 pub fn total(low: u8, high: u8) -> Reading
     ensures { result ≡ judged (total_of low high) }
 {
@@ -72,6 +78,7 @@ pub fn total(low: u8, high: u8) -> Reading
     })
 }
 
+#[tactic(auto, unfolding(message::specs::Range::range_of))]
 pub fn logs(z4: u8, xx: u8, yy: u8, uu: u8, vv: u8, aw: u8) -> Reading
     ensures { result ≡ judged (logs_of z4 xx yy uu vv aw) }
 {
@@ -81,6 +88,7 @@ pub fn logs(z4: u8, xx: u8, yy: u8, uu: u8, vv: u8, aw: u8) -> Reading
     })
 }
 
+#[tactic(auto, unfolding(message::specs::Range::range_of))]
 pub fn speeds(xl: u8, xh: u8, yl: u8, yh: u8, de: u8) -> Reading
     ensures { result ≡ judged (speeds_of xl xh yl yh de) }
 {
@@ -93,6 +101,7 @@ pub fn speeds(xl: u8, xh: u8, yl: u8, yh: u8, de: u8) -> Reading
     })
 }
 
+#[tactic(auto, unfolding(message::specs::Range::range_of))]
 pub fn water(low: u8, high: u8) -> Reading
     ensures { result ≡ judged (water_of low high) }
 {
@@ -101,6 +110,7 @@ pub fn water(low: u8, high: u8) -> Reading
     })
 }
 
+#[tactic(auto, unfolding(message::specs::Range::range_of))]
 pub fn lamp(x: u8) -> Reading
     ensures { result ≡ judged (lamp_of x) }
 {
@@ -113,6 +123,7 @@ pub fn lamp(x: u8) -> Reading
     }
 }
 
+#[tactic(auto, unfolding(message::specs::Range::range_of))]
 pub fn latitude(xx: u8, low: u8, high: u8) -> Reading
     ensures { result ≡ judged (latitude_of xx low high) }
 {
@@ -127,6 +138,7 @@ pub fn latitude(xx: u8, low: u8, high: u8) -> Reading
     }
 }
 
+#[tactic(auto, unfolding(message::specs::Range::range_of))]
 pub fn longitude(xx: u8, low: u8, high: u8) -> Reading
     ensures { result ≡ judged (longitude_of xx low high) }
 {
@@ -154,6 +166,7 @@ fn degrees_up_to(limit: u8, degrees: u8, hundredths: u32) -> Verdict
     Verdict::InRange
 }
 
+#[tactic(auto, unfolding(message::specs::Range::range_of))]
 pub fn ground(low: u8, high: u8) -> Reading
     ensures { result ≡ judged (ground_of low high) }
 {
@@ -162,6 +175,7 @@ pub fn ground(low: u8, high: u8) -> Reading
     })
 }
 
+#[tactic(auto, unfolding(message::specs::Range::range_of))]
 pub fn course(u0: u8, vw: u8) -> Reading
     ensures { result ≡ judged (course_of u0 vw) }
 {
@@ -174,6 +188,7 @@ pub fn course(u0: u8, vw: u8) -> Reading
     }
 }
 
+#[tactic(auto, unfolding(message::specs::Range::range_of))]
 pub fn time(t1: u8, rs: u8, hh: u8) -> Reading
     ensures { result ≡ judged (time_of t1 rs hh) }
 {
@@ -195,6 +210,7 @@ pub fn time(t1: u8, rs: u8, hh: u8) -> Reading
     })
 }
 
+#[tactic(auto, unfolding(message::specs::Range::range_of))]
 pub fn date(m1: u8, dd: u8, yy: u8) -> Reading
     ensures { result ≡ judged (date_of m1 dd yy) }
 {
@@ -221,6 +237,7 @@ pub fn date(m1: u8, dd: u8, yy: u8) -> Reading
     })
 }
 
+#[tactic(auto, unfolding(message::specs::Range::range_of))]
 pub fn pilot(u6: u8, vw: u8, xy: u8, z: u8, m: u8, rr: u8, ss: u8, tt: u8) -> Reading
     ensures { result ≡ judged (pilot_of u6 vw xy z m rr ss tt) }
 {
@@ -280,6 +297,7 @@ fn angles_spelled(field: u8, vw: u8, xy: u8) -> Verdict
     Verdict::InRange
 }
 
+#[tactic(auto, unfolding(message::specs::Range::range_of))]
 pub fn key(x1: u8, code: u8, repeat: u8) -> Reading
     ensures { result ≡ judged (key_of x1 code repeat) }
 {
@@ -293,6 +311,7 @@ pub fn key(x1: u8, code: u8, repeat: u8) -> Reading
     }
 }
 
+#[tactic(auto, unfolding(message::specs::Range::range_of))]
 pub fn heading(u2: u8, vw: u8, xy: u8, z: u8) -> Reading
     ensures { result ≡ judged (heading_of u2 vw xy z) }
 {
@@ -306,6 +325,7 @@ pub fn heading(u2: u8, vw: u8, xy: u8, z: u8) -> Reading
     }
 }
 
+#[tactic(auto, unfolding(message::specs::Range::range_of))]
 pub fn variation(xx: u8) -> Reading
     ensures { result ≡ judged (variation_of xx) }
 {
@@ -314,6 +334,7 @@ pub fn variation(xx: u8) -> Reading
     })
 }
 
+#[tactic(auto, unfolding(message::specs::Range::range_of))]
 pub fn turn(u1: u8, vw: u8, rr: u8) -> Reading
     ensures { result ≡ judged (turn_of u1 vw rr) }
 {

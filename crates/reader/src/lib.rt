@@ -9,6 +9,7 @@ use datagram::refusals::{NOT_WHOLE, UNKNOWN_COMMAND, WRONG_LENGTH};
 use message::{Kind, Lookup, Reading};
 
 // Reads any bytes: the message, or refusal 3, 4, 5, 6 or 7, in that order.
+#[tactic(auto, unfolding(message::specs::Reading::read_of))]
 pub fn read(bytes: &[u8]) -> Reading
     ensures { result ≡ read_of bytes.now }
 {
@@ -41,6 +42,7 @@ fn read_as(found: Lookup, bytes: &[u8]) -> Reading
 
 // Reads any bytes as a datagram of this kind: the message, or refusal 3, 4, 5, 6 or 7, in that order; 4 where the command is
 // not this kind's. A caller that goes by the kind has the compiler read that kind alone.
+#[tactic(auto, unfolding(crate::specs::OfKind::read_of_kind))]
 pub fn read_of(kind: Kind, bytes: &[u8]) -> Reading
     ensures { result ≡ read_of_kind kind bytes.now }
 {
@@ -66,6 +68,7 @@ fn read_sized(kind: Kind, size: u8, bytes: &[u8]) -> Reading
 }
 
 // What the bytes of a datagram of this kind say, if its fields are in range.
+#[tactic(auto, unfolding(message::specs::Reading::read_kind))]
 fn read_kind(kind: Kind, bytes: &[u8]) -> Reading
     ensures { result ≡ judged (read_kind kind bytes.now) }
 {

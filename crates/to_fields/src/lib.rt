@@ -29,6 +29,7 @@ fn array(count: u8, a: i64, b: i64, c: i64, d: i64, e: i64, f: i64) -> Fields
 }
 
 // The message's fields.
+#[tactic(auto, unfolding(message::specs::Fields::fields_of))]
 pub fn fields_of(m: Message) -> Fields
     ensures { result ≡ array_of (fields_of m) }
 {

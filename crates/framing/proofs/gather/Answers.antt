@@ -1,6 +1,6 @@
 -- `gather` has the bytes of the first i records after i iterations; a command symbol, or their number, ends them.
 use Prim.Native.Nat.{◌+◌, ◌*◌, ◌%◌, ◌-◌}
-use mathlib.Core.Path.{◌≡◌, refl, sym, ◌∙◌}
+use mathlib.Core.Path.{◌≡◌, refl}
 use native.Mathlib.Omega.{arith}
 use lib.ListN.{get_or}
 use Rattle.recording.specs.Record.{byte_of}
@@ -19,11 +19,6 @@ returns-then-input-at c = unused c.gives-then-input-at.ensures
 
 pub returns-then-left-lt3 : goal.returns-then-left-lt3
 returns-then-left-lt3 c = unused c.gives-then-left-lt3.ensures
-
--- NO GOAL cast-n
-cast-n : tie.Need-overflow-cast-n invariant-loop decreases-loop
-cast-n c =
-    omega (arith, c.shared-slice-known2.given (c.before.before.before.before.before.before.before.args.at + 14))
 
 pub returns-then-left-n : goal.returns-then-left-n
 returns-then-left-n c = unused c.gives-then-left-n.ensures
@@ -44,9 +39,6 @@ loop-i-init c =
     let at = c.args.at in
     (omega arith, omega arith, gathered_one s at c.args.bytes.now c.if-bytes-ne18.false (c.carries.ensures (c.if-not-carries.false)) (omega (arith, c.shared_slice_known-3-1.given (at + 6))))
 
-same_length : tie.Need-same-length invariant-loop decreases-loop
-same_length c = c.before.before.before.before.before.before.loop.invariant.2.long ∙ sym c.before.before.before.before.before.before.before.before.before.before.before.before.before.before.if2.false
-
 pub returns-then-carries-2 : goal.returns-then-carries-2
 returns-then-carries-2 c =
     let v = c.loop-i in
@@ -54,10 +46,6 @@ returns-then-carries-2 c =
     let at = c.args.at in
     let heard = c.carries-then-not-carries-2.ensures c.if-carries-2.true in
     λ h. (c.if-not-empty.false, gathered_cancelled {n = 3 + get_or s (at + 14) 0 % 16} v.invariant.2 refl (omega (arith, c.if-left-n.false)) (byte_of s (at + 8 * v.i) 6) v.invariant.0 c.loop-i-test.true (omega (arith, c.shared_slice_known-1.given (at + 8 * v.i + 6))) heard _ c.gives-then-carries-2.ensures)
-
--- NO GOAL same-length-2
-same-length-2 : tie.Need-same-length-2 invariant-loop decreases-loop
-same-length-2 c = c.before.before.before.before.before.before.loop.invariant.2.long ∙ sym c.before.before.before.before.before.before.before.before.before.before.before.before.before.before.if2.false
 
 pub returns-then-not-carries-2 : goal.returns-then-not-carries-2
 returns-then-not-carries-2 c = unused c.gives-then-not-carries-2.ensures
@@ -68,10 +56,6 @@ loop-i-preserved c =
     let s = c.args.input.now in
     let at = c.args.at in
     (omega arith, omega arith, gathered_more s at v.bytes v.i v.invariant.2 v.invariant.0 (omega arith) (c.carries-in-loop-i.ensures (c.if-not-carries-2.false)) (omega (arith, c.shared_slice_known-in-loop-i-1.given (at + 8 * v.i + 6))))
-
--- NO GOAL same-length-3
-same-length-3 : tie.Need-same-length-3 invariant-loop decreases-loop
-same-length-3 c = c.before.before.before.loop.invariant.2.long ∙ sym c.before.before.before.before.before.before.before.before.before.before.before.if2.false
 
 pub returns : goal.returns
 returns c =

@@ -17,15 +17,13 @@ returns-in-End c =
 
 pub returns-in-Refused : goal.returns-in-Refused
 returns-in-Refused c =
-    let r = c.r-1.given in
     let e = c.stopped-in-Refused.ensures in
-    record_ends (Stopped r.0.0) _
-    (λ line left room some roomy. walk_refused line c.args.input.now c.args.at c.args.p left room some r.0.0 roomy (sym c.record_at.ensures ∙ r.1))
+    record_ends (Stopped c.in-Refused.r) _
+    (λ line left room some roomy. walk_refused line c.args.input.now c.args.at c.args.p left room some c.in-Refused.r roomy (sym c.record_at.ensures ∙ c.in-Refused.is))
     e.1 e.2 e.3
 
 pub returns-in-Heard : goal.returns-in-Heard
 returns-in-Heard c =
-    let t = c.time-1.given in
     let heard = c.hear-h.ensures in
     let long : length c.hear-h.result.bytes ≡ 18 = search rules in
-    record_heard t.0.0 t.0.1.0 _ (sym c.record_at.ensures ∙ t.1) (c.advance.ensures ∙ rw heard) refl refl (ap (λ (h : Heard). h.count) heard) (ap (λ (h : Heard). h.bytes) heard) long
+    record_heard c.in-Heard.time c.in-Heard.symbol _ (sym c.record_at.ensures ∙ c.in-Heard.is) (c.advance.ensures ∙ rw heard) refl refl (ap (λ (h : Heard). h.count) heard) (ap (λ (h : Heard). h.bytes) heard) long
