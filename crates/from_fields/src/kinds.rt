@@ -7,6 +7,7 @@ use crate::numbers::{natural_at, on_at, signed_at};
 use message::{Kind, Message};
 
 // How many fields the kind has.
+#[tactic(auto, unfolding(crate::specs::Naming::count_of))]
 pub fn count_of(kind: Kind) -> u8
     ensures { result ≡ count_of kind }
 {
@@ -58,6 +59,7 @@ fn first_flag(first: u8, later: u8) -> u8
 }
 
 // The kind's first bad flag, counted from 1; 0 where there is none.
+#[tactic(auto, unfolding(crate::specs::Naming::flags_of))]
 pub fn bad_flag(kind: Kind, fields: &[u8]) -> u8
     ensures { result ≡ bad_flag (flags_of kind) (numbers_of fields.now) }
 {
@@ -87,6 +89,7 @@ pub fn bad_flag(kind: Kind, fields: &[u8]) -> u8
 }
 
 // The message of this kind with these fields.
+#[tactic(auto, unfolding(crate::specs::Naming::message_of))]
 pub fn of_kind(kind: Kind, fields: &[u8]) -> Message
     ensures { result ≡ message_of kind (numbers_of fields.now) }
 {

@@ -12,6 +12,7 @@ use datagram::refusals::NO_ROOM;
 use message::{Message, Verdict};
 
 // Writes the message's symbols from the position `at`, or gives refusal 7 or 8, in that order. Nothing else is changed.
+#[tactic(auto, unfolding(crate::specs::Writing::write_of))]
 pub fn write(m: Message, buf: &mut [u16], at: usize) -> Written
     ensures { outcome result buf.new ≡ write_of m buf.old at }
 {
@@ -28,6 +29,7 @@ pub fn write(m: Message, buf: &mut [u16], at: usize) -> Written
 }
 
 // Hands the lent part on to the kind's writer.
+#[tactic(auto, unfolding(message::specs::Spelling::bytes_of))]
 fn put(m: Message, part: &mut [u16]) -> Written
     ensures { outcome result part.new ≡ store_of (bytes_of m) part.old }
 {
