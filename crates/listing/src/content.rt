@@ -69,6 +69,7 @@ fn put_reading(pairs: &[u8; 712], out: &mut [u8], at: usize, reading: Reading) -
 }
 
 // Puts the name of a message's kind, and its fields in table order.
+#[tactic(auto, unfolding(message::specs::Fields::fields_of, message::specs::Fields::kind_of))]
 fn put_message(pairs: &[u8; 712], out: &mut [u8], at: usize, m: Message) -> usize
     requires { (pairs.now ≡ digit_pairs) × (at + 260 ≤ length out.old) }
     ensures { Put out.old at (message_text m) out.new result }

@@ -35,11 +35,14 @@ fn put_bytes(out: &mut [u8], at: usize, text: &[u8]) -> usize
     requires { at + length text.now ≤ length out.old }
     ensures { Put out.old at text.now out.new result }
 {
-    at + bytes::copy(text, &mut out[at..])
+    let end = at + text.len();
+    out[at..end].copy_from_slice(text);
+    end
 }
 
 // The two hex digits of each byte, and behind them the two decimal digits of each number below 100. It is laid out once
 // for a block: a constant would be laid out again at every use.
+#[tactic(auto, unfolding(crate::specs::Text::digit_pairs))]
 fn digit_pairs() -> [u8; 712]
     ensures { result ≡ digit_pairs }
 {
