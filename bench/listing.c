@@ -1,4 +1,4 @@
-/* Lists a recording of the bus: the same bytes as target/bin/buslist, for bench/listing to time it against.
+/* Lists a recording of the bus: the same bytes as buslist, for bench/listing to time it against.
    Plain C11. A datagram whose records all lie in the block is taken whole; every other symbol goes through the
    listener one at a time. Numbers below 10^8 are spelled without a branch. */
 #include <errno.h>
