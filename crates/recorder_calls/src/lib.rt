@@ -1,4 +1,6 @@
 // The recording writer's two calls for programs in C, which the tests and the benchmark use; firmware has seatalk_record.
+#![tactic(auto)]
+
 ghost use Rattle.std.specs.Prelude.{◌≡◌};
 ghost use Rattle.recorder.specs.Recording.{record_written, run_written};
 ghost use Rattle.recorder_calls.specs.Code.{code_of, shown};
