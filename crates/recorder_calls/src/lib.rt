@@ -22,6 +22,7 @@ pub extern "C" fn recorder_records(times: &[u32], symbols: &[u16], buf: &mut [u8
 }
 
 // The number of bytes stored, or 2^64 - 1 minus the refusal's number and 256 times its place.
+#[tactic(auto, unfolding(crate::specs::Code::code_of))]
 fn code_of(w: Written) -> u64
     ensures { result ≡ code_of w }
 {
