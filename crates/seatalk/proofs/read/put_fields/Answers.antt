@@ -17,8 +17,7 @@ use Rattle.from_fields.proofs.Each.{each_length}
 use Rattle.number.proofs.Signed.{handed}
 use Rattle.seatalk.proofs.Fits.{fields_fit}
 use borrow.Author.Rules.{rules}
-use Rattle.seatalk.proofs.read.put_fields.Statement.{statement}
-use Rattle.seatalk.proofs.read.put_fields.Tie as tie
+use Rattle.seatalk.proofs.read.put_fields.Goals as goal
 
 size : (zs : List ℤ) → length (fields_bytes zs) ≡ 4 * length zs
 size zs = each_length field_bytes 4 (λ z. refl) zs
@@ -33,30 +32,24 @@ module _ (zs : List ℤ) (f : Fields) (e : f ≡ array_of zs) where
       let all : length f.values ≡ length zs + (12 - length zs) = rw (e, length-append, length-replicate) in
       omega arith
 
-returns : tie.Need-returns
-returns c =
-    let a = c.before.before.before.before.before.args in
-    let f = c.before.before.before.fields-of in
+pub returns-then-res-size : goal.returns-then-res-size
+returns-then-res-size c =
+    let a = c.args in
+    let f = c.fields_of-f in
     let n : f.result.count ≡ length (fields_of a.m) = rw f.ensures in
-    rw (handed w32 c.code_of_lem.type-inv c.code_of_lem.ensures, size (fields_of a.m), lt-leb (4 * length (fields_of a.m)) (length a.result.now) (omega arith))
+    rw (handed w32 c.code_of.type_inv c.code_of.ensures, size (fields_of a.m), lt-leb (4 * length (fields_of a.m)) (length a.res.now) (omega arith))
 
-store-requires : tie.Need-store-requires
-store-requires c κs =
-    let a = c.before.before.before.before.before.args in
-    let f = c.before.before.before.fields-of in
+pub store-requires : goal.store-requires
+store-requires c =
+    let a = c.args in
+    let f = c.fields_of-f in
     let long : length f.result.values ≡ 12 = search rules in
     let n : f.result.count ≡ length (fields_of a.m) = rw f.ensures in
-    (omega (arith, few (fields_of a.m) f.result f.ensures long), (omega arith, rw (listed (fields_of a.m) f.result f.ensures) (fields_fit a.m c.before.before.before.before.before.requires)))
+    (omega (arith, few (fields_of a.m) f.result f.ensures long), (omega arith, rw (listed (fields_of a.m) f.result f.ensures) (fields_fit a.m c.requires)))
 
-returns-2 : tie.Need-returns-2
-returns-2 c =
-    let a = c.before.before.before.before.before.before.before.before.args in
-    let f = c.before.before.before.before.before.before.fields-of in
+pub returns : goal.returns
+returns c =
+    let a = c.args in
+    let f = c.fields_of-f in
     let n : f.result.count ≡ length (fields_of a.m) = rw f.ensures in
-    rw (size (fields_of a.m), le-leb (4 * length (fields_of a.m)) (length a.result.now) (omega arith), to_z_pos w32 (4 * f.result.count) (omega arith), c.before.before.store.ensures, listed (fields_of a.m) f.result f.ensures, n)
-
-pub put_fields_spec : {M : Type 1} → statement M
-put_fields_spec =
-    tie.close
-    (tie.spec (λ c κs. search rules) (λ c. search rules) (λ c. search rules) (λ c κs. search rules) returns
-    store-requires (λ c. search rules) (λ c. search rules) returns-2)
+    rw (size (fields_of a.m), le-leb (4 * length (fields_of a.m)) (length a.res.now) (omega arith), to_z_pos w32 (4 * f.result.count) (omega arith), c.store.ensures, listed (fields_of a.m) f.result f.ensures, n)
