@@ -1,6 +1,6 @@
 -- `store` has laid out the first i symbols after i iterations.
 use mathlib.Core.Path.{◌≡◌, refl}
-use Prim.Native.Nat.{◌-◌, ◌*◌}
+use Prim.Native.Nat.{◌*◌}
 use native.Mathlib.Numerals.{add-one}
 use native.Mathlib.Omega.{arith}
 use Rattle.from_fields.proofs.Each.{one_more}
