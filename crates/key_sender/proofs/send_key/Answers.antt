@@ -1,0 +1,24 @@
+-- `send_key` offers the bytes of the symbols that the writer stored, which are the message's.
+use mathlib.Core.Path.{◌∙◌}
+use Rattle.message.specs.declared.Message.TheVariants.{Key}
+use Rattle.message.specs.Range.{range_of}
+use Rattle.writer.specs.Writing.{write_of}
+use Rattle.key_sender.specs.Key.{key_of}
+use Rattle.key_sender.proofs.Spelled.{key_refused, key_offered}
+use Rattle.key_sender.proofs.send_key.Goals as goal
+
+pub returns-in-Refused : goal.returns-in-Refused
+unfolding key_of write_of
+returns-in-Refused c =
+    let a = c.args in
+    let w = c.write in
+    c.refused_offer.ensures
+    ∙ key_refused a.source a.code (range_of (Key a.source a.code)) _ w.new.buf (rw c.in-Refused.is at w.ensures)
+
+pub returns-in-Wrote : goal.returns-in-Wrote
+unfolding key_of write_of
+returns-in-Wrote c =
+    let a = c.args in
+    let w = c.write in
+    c.offer.ensures
+    ∙ key_offered a.source a.code (range_of (Key a.source a.code)) _ w.new.buf (rw c.in-Wrote.is at w.ensures)
