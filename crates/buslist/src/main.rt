@@ -1,8 +1,10 @@
 // Lists a recording from standard input to standard output in constant memory: it reads, lists what is held, and writes.
+#![tactic(auto)]
+
 ghost use Rattle.std.specs.Prelude.{◌≡◌, ◌≤◌, length};
 
-use libc::{EINTR, STDERR_FILENO, STDIN_FILENO, STDOUT_FILENO};
 use progress::{Progress, Stop, begin};
+use std::io::{Error, ErrorKind, Read, Write};
 use stream::{list_held, put_last};
 
 // What is carried from read to read: the bytes not listed yet stand at the front of the input buffer, and `base` is the
@@ -30,23 +32,23 @@ enum Went {
     Failed,
 }
 
-fn main() {
+fn main(rt: HostRuntime) {
     let mut input = [0u8; 65536];
     let mut out = [0u8; 131072];
-    if !write_header(&mut out) {
+    if !write_header(&rt, &mut out) {
         return;
     }
     let mut c = carrying(begin(), 0, 0, true);
     // As many reads as a 64-bit counter can count.
     let mut left: u64 = 18446744073709551615;
     while 0 < left {
-        c = read_and_list(c, &mut input, &mut out);
+        c = read_and_list(&rt, c, &mut input, &mut out);
         if !c.going {
             return;
         }
         left -= 1;
     }
-    say(b"buslist: standard input: more to read than can be counted\n");
+    let _ = eprintln!(rt; "buslist: standard input: more to read than can be counted");
 }
 
 fn carrying(progress: Progress, base: u64, held: usize, going: bool) -> Carried
@@ -61,19 +63,19 @@ fn carrying(progress: Progress, base: u64, held: usize, going: bool) -> Carried
 }
 
 // Reads once: what is read is listed, and the last lines follow where the input has ended.
-fn read_and_list(c: Carried, input: &mut [u8], out: &mut [u8]) -> Carried
+fn read_and_list(rt: &HostRuntime, c: Carried, input: &mut [u8], out: &mut [u8]) -> Carried
     requires { c.held ≤ length input.old }
     ensures { result.held ≤ length input.new }
 {
     let p = c.progress;
-    let g = read_some(c.held, input);
+    let g = read_some(rt, c.held, input);
     let filled = g.filled;
     let went = g.went;
     match went {
-        Went::On => list_and_write(p, c.base, filled, input, out),
+        Went::On => list_and_write(rt, p, c.base, filled, input, out),
         Went::Again => carrying(p, c.base, filled, true),
         Went::Ended => {
-            write_end(p, c.base, &input[0..filled], out);
+            write_end(rt, p, c.base, &input[0..filled], out);
             carrying(p, 0, 0, false)
         }
         Went::Failed => carrying(p, 0, 0, false),
@@ -81,26 +83,24 @@ fn read_and_list(c: Carried, input: &mut [u8], out: &mut [u8]) -> Carried
 }
 
 // Reads behind the bytes held, unless a whole record is held, for whose text there was no room.
-fn read_some(held: usize, input: &mut [u8]) -> Got
+fn read_some(rt: &HostRuntime, held: usize, input: &mut [u8]) -> Got
     requires { held ≤ length input.old }
     ensures { result.filled ≤ length input.new }
 {
     if 8 <= held {
         return filled_to(held, Went::On);
     }
-    let count = libc::read(STDIN_FILENO, &mut input[held..]);
-    if count < 0 {
-        if os::errno() == EINTR {
-            return filled_to(held, Went::Again);
+    match rt.stdin().read(&mut input[held..]) {
+        Ok(0) => filled_to(held, Went::Ended),
+        Ok(n) => filled_to(held + n, Went::On),
+        Err(e) => {
+            if e.kind() == ErrorKind::Interrupted {
+                return filled_to(held, Went::Again);
+            }
+            fail(rt, "buslist: standard input", e);
+            filled_to(held, Went::Failed)
         }
-        os::fail(b"buslist: standard input");
-        return filled_to(held, Went::Failed);
     }
-    let n = io::count(count, &input[held..]);
-    if n == 0 {
-        return filled_to(held, Went::Ended);
-    }
-    filled_to(held + n, Went::On)
 }
 
 fn filled_to(filled: usize, went: Went) -> Got
@@ -114,6 +114,7 @@ fn filled_to(filled: usize, went: Went) -> Got
 
 // Lists the first `filled` bytes and writes the text; the last lines too where a record is refused.
 fn list_and_write(
+    rt: &HostRuntime,
     progress: Progress,
     base: u64,
     filled: usize,
@@ -126,55 +127,43 @@ fn list_and_write(
     let r = list_held(progress, base, filled, input, out);
     let p = r.progress;
     let stop = r.stop;
-    if !put_out(out, r.written) {
+    if !put_out(rt, out, r.written) {
         return carrying(p, 0, 0, false);
     }
     if let Stop::Stopped(_) = stop {
         let last = listing::put_end(out, p, stop);
-        put_out(out, last);
+        put_out(rt, out, last);
         return carrying(p, 0, 0, false);
     }
     carrying(p, r.base, r.held, true)
 }
 
-fn write_header(out: &mut [u8]) -> bool {
+fn write_header(rt: &HostRuntime, out: &mut [u8]) -> bool {
     let n = listing::put_header(out);
-    put_out(out, n)
+    put_out(rt, out, n)
 }
 
 // The last lines where the input has ended with these bytes held.
-fn write_end(progress: Progress, base: u64, rest: &[u8], out: &mut [u8]) {
+fn write_end(rt: &HostRuntime, progress: Progress, base: u64, rest: &[u8], out: &mut [u8]) {
     let n = put_last(progress, base, rest, out);
-    put_out(out, n);
+    put_out(rt, out, n);
 }
 
 // Writes the first n bytes to standard output, however often a signal interrupts it; says so on standard error and answers
 // false where that fails.
-fn put_out(out: &[u8], n: usize) -> bool
+fn put_out(rt: &HostRuntime, out: &[u8], n: usize) -> bool
     requires { n ≤ length out.now }
 {
-    let mut done = 0;
-    let mut left: u64 = 18446744073709551615;
-    while done < n {
-        let put = libc::write(STDOUT_FILENO, &out[done..n]);
-        let some = io::count(put, &out[done..n]);
-        if some == 0 {
-            if os::errno() != EINTR {
-                os::fail(b"buslist: standard output");
-                return false;
-            }
-            if left == 0 {
-                say(b"buslist: standard output: more interruptions than can be counted\n");
-                return false;
-            }
-            left -= 1;
-        } else {
-            done += some;
+    match Write::write_all(&mut rt.stdout(), &out[..n]) {
+        Ok(()) => true,
+        Err(e) => {
+            fail(rt, "buslist: standard output", e);
+            false
         }
     }
-    true
 }
 
-fn say(what: &[u8]) {
-    io::write_all(STDERR_FILENO, what);
+// Says on standard error what failed, and why.
+fn fail(rt: &HostRuntime, what: &str, e: Error) {
+    let _ = eprintln!(rt; "{what}: {e}");
 }

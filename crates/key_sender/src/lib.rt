@@ -1,4 +1,6 @@
 // The key sender: a keystroke, datagram 86, offered to the bus.
+#![tactic(auto)]
+
 ghost use Rattle.std.specs.Prelude.{◌≡◌};
 ghost use Rattle.key_sender.specs.Key.{key_of};
 

@@ -1,14 +1,16 @@
 // The worked examples E1 to E12 of rules 12: each datagram is read, and a line tells what it gave.
+#![tactic(auto)]
+
 ghost use Rattle.std.specs.Prelude.{◌≡◌, ◌<◌};
 ghost use Rattle.reader_examples.specs.Examples.{outcome_of};
 ghost use Rattle.reader_examples.specs.Rows.{row_of, example_at, refusal_in};
 
-use libc::STDOUT_FILENO;
 use message::Reading;
+use std::io::Write;
 use to_fields::Fields;
 
 // A datagram, the first `count` of `bytes`, and the number of the refusal that it gets, 0 where it reads.
-#[derive(Drop)]
+#[derive(Clone, Copy)]
 struct Row {
     bytes: [u8; 5],
     count: u8,
@@ -90,16 +92,16 @@ const ROWS: [Row; 12] = [
     },
 ];
 
-fn main() {
+fn main(rt: HostRuntime) {
     let mut i = 0;
     while i < 12 {
-        show(i);
+        show(&rt, i);
         i += 1;
     }
 }
 
 // Reads example i, sees that its refusal is the expected one, and writes its line.
-fn show(i: usize)
+fn show(rt: &HostRuntime, i: usize)
     requires { i < 12 }
 {
     let row = row_at(i);
@@ -107,8 +109,9 @@ fn show(i: usize)
     let n = row.count as usize;
     let part = &bytes[0..n];
     let reading = reader::read(part);
-    check::expect(refusal_of(reading) == row.refusal);
-    write_line(i as u64 + 1, part, reading);
+    let expected = refusal_of(reading) == row.refusal;
+    prove!(expected);
+    write_line(rt, i as u64 + 1, part, reading);
 }
 
 fn row_at(i: usize) -> Row
@@ -128,27 +131,27 @@ fn refusal_of(reading: Reading) -> u8
     }
 }
 
-fn write_line(number: u64, bytes: &[u8], reading: Reading) {
-    io::write_all(STDOUT_FILENO, b"E");
-    io::print_decimal(STDOUT_FILENO, number);
-    write_bytes(bytes);
-    write_reading(reading);
-    io::write_all(STDOUT_FILENO, b"\n");
+fn write_line(rt: &HostRuntime, number: u64, bytes: &[u8], reading: Reading) {
+    write_text(rt, b"E");
+    write_decimal(rt, number);
+    write_bytes(rt, bytes);
+    write_reading(rt, reading);
+    write_text(rt, b"\n");
 }
 
-fn write_bytes(bytes: &[u8]) {
+fn write_bytes(rt: &HostRuntime, bytes: &[u8]) {
     let mut i = 0;
     while i < bytes.len() {
-        io::write_all(STDOUT_FILENO, b" ");
-        write_byte(bytes[i]);
+        write_text(rt, b" ");
+        write_byte(rt, bytes[i]);
         i += 1;
     }
 }
 
 // A byte as two digits of base 16.
-fn write_byte(b: u8) {
+fn write_byte(rt: &HostRuntime, b: u8) {
     let text = [digit(b / 16), digit(b % 16)];
-    io::write_all(STDOUT_FILENO, &text);
+    write_text(rt, &text);
 }
 
 fn digit(n: u8) -> u8
@@ -157,22 +160,22 @@ fn digit(n: u8) -> u8
     if n < 10 { b'0' + n } else { b'A' - 10 + n }
 }
 
-fn write_reading(reading: Reading) {
+fn write_reading(rt: &HostRuntime, reading: Reading) {
     match reading {
         Reading::Read(m) => {
-            io::write_all(STDOUT_FILENO, b" reads ");
-            write_byte(message::command_of(m));
-            io::write_all(STDOUT_FILENO, b":");
-            write_fields(to_fields::fields_of(m));
+            write_text(rt, b" reads ");
+            write_byte(rt, message::command_of(m));
+            write_text(rt, b":");
+            write_fields(rt, to_fields::fields_of(m));
         }
         Reading::Refused(r) => {
-            io::write_all(STDOUT_FILENO, b" refused ");
-            io::print_decimal(STDOUT_FILENO, r.number as u64);
+            write_text(rt, b" refused ");
+            write_decimal(rt, r.number as u64);
         }
     }
 }
 
-fn write_fields(f: Fields) {
+fn write_fields(rt: &HostRuntime, f: Fields) {
     let values = f.values;
     let count = f.count as usize;
     let mut i = 0;
@@ -181,17 +184,26 @@ fn write_fields(f: Fields) {
             return;
         }
         if 0 < i {
-            io::write_all(STDOUT_FILENO, b",");
+            write_text(rt, b",");
         }
-        io::write_all(STDOUT_FILENO, b" ");
-        write_number(values[i]);
+        write_text(rt, b" ");
+        write_number(rt, values[i]);
         i += 1;
     }
 }
 
-fn write_number(z: i64) {
+fn write_number(rt: &HostRuntime, z: i64) {
     if z < 0 {
-        io::write_all(STDOUT_FILENO, b"-");
+        write_text(rt, b"-");
     }
-    io::print_decimal(STDOUT_FILENO, number::magnitude(z));
+    write_decimal(rt, number::magnitude(z));
+}
+
+fn write_decimal(rt: &HostRuntime, n: u64) {
+    let _ = print!(rt; "{n}");
+}
+
+// A failed write is passed over.
+fn write_text(rt: &HostRuntime, text: &[u8]) {
+    let _ = Write::write_all(&mut rt.stdout(), text);
 }

@@ -1,4 +1,6 @@
 // The recording writer's two calls for programs in C, which the tests and the benchmark use; firmware has seatalk_record.
+#![tactic(auto)]
+
 ghost use Rattle.std.specs.Prelude.{◌≡◌};
 ghost use Rattle.recorder.specs.Recording.{record_written, run_written};
 ghost use Rattle.recorder_calls.specs.Code.{code_of, shown};
@@ -20,6 +22,7 @@ pub extern "C" fn recorder_records(times: &[u32], symbols: &[u16], buf: &mut [u8
 }
 
 // The number of bytes stored, or 2^64 - 1 minus the refusal's number and 256 times its place.
+#[tactic(auto, unfolding(crate::specs::Code::code_of))]
 fn code_of(w: Written) -> u64
     ensures { result ≡ code_of w }
 {

@@ -1,4 +1,6 @@
 // The C boundary: listener, reader, writer and recording writer on plain numbers and byte slices.
+#![tactic(auto)]
+
 mod hear;
 mod read;
 mod record;
@@ -61,7 +63,7 @@ fn put(lent: &mut [u8], at: usize, bytes: &[u8])
     requires { at + length bytes.now ≤ length lent.old }
     ensures { lent.new ≡ paste lent.old at bytes.now (length bytes.now) }
 {
-    bytes::copy(bytes, &mut lent[at..]);
+    lent[at..at + bytes.len()].copy_from_slice(bytes);
 }
 
 // Puts the four bytes of 32 bits from a position on, low byte first.

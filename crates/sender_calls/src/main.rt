@@ -11,27 +11,46 @@
 //   {fields}  makes any sender, by the first 23 numbers: phase 0 to 3, 18 bytes, position, wait, limit, failures
 // Times, the source, and an offer's wait and limit are decimal, all else is base 16. {Offer}, {Poll} and {Echo} write nothing.
 // Capitals A to F are digits wherever they stand. A line keeps 24 numbers, so an offer can have up to 22 bytes.
+#![tactic(auto)]
+
 mod calls;
 mod numbers;
 mod output;
 mod script;
 mod text;
 
-use libc::STDIN_FILENO;
+ghost use Rattle.std.specs.Prelude.{◌≤◌, length};
 
-fn main() {
-    let mut input = io::large_buffer();
-    let mut out = io::large_buffer();
+use std::io::Read;
+
+fn main(rt: HostRuntime) {
+    let mut input = [0u8; 65536];
+    let mut out = [0u8; 65536];
     let mut s = script::begin();
     // As many reads as a 64-bit counter can count: nothing else says that the input ends.
     let mut left: u64 = 18446744073709551615;
     while 0 < left {
-        let n = io::read_full(STDIN_FILENO, &mut input);
+        let n = read_full(&rt, &mut input);
         if n == 0 {
             break;
         }
-        s = script::run(s, &input[..n], &mut out);
+        s = script::run(&rt, s, &input[..n], &mut out);
         left -= 1;
     }
-    output::write_out(&out, s.filled);
+    output::write_out(&rt, &out, s.filled);
+}
+
+// Reads until the buffer is full, the input ends or a read fails, and gives how many bytes that were.
+fn read_full(rt: &HostRuntime, buf: &mut [u8]) -> usize
+    ensures { result ≤ length buf.new }
+{
+    let mut done = 0;
+    while done < buf.len() {
+        match rt.stdin().read(&mut buf[done..]) {
+            Ok(0) => return done,
+            Ok(n) => done += n,
+            Err(_) => return done,
+        }
+    }
+    done
 }

@@ -1,7 +1,7 @@
 // The numbers of a line, as they are read.
 ghost use Rattle.std.specs.Prelude.{◌≤◌};
 
-#[derive(Drop)]
+#[derive(Clone, Copy)]
 pub struct Numbers {
     // each in base 16, its low byte
     pub bytes: [u8; 24],

@@ -36,18 +36,18 @@ pub fn begin() -> Kept {
 }
 
 // The whole block.
-pub fn run(before: Kept, block: &[u8], out: &mut [u8]) -> Kept {
+pub fn run(rt: &HostRuntime, before: Kept, block: &[u8], out: &mut [u8]) -> Kept {
     let mut k = before;
     let mut i = 0;
     while i < block.len() {
-        k = after(k, block[i], out);
+        k = after(rt, k, block[i], out);
         i += 1;
     }
     k
 }
 
 // One character.
-fn after(before: Kept, c: u8, out: &mut [u8]) -> Kept {
+fn after(rt: &HostRuntime, before: Kept, c: u8, out: &mut [u8]) -> Kept {
     let mut k = before;
     let read = k.numbers;
     let numbers = numbers::with(read, c);
@@ -57,11 +57,11 @@ fn after(before: Kept, c: u8, out: &mut [u8]) -> Kept {
             k.command = c;
             return k;
         }
-        k.filled = output::put(c, out, k.filled);
+        k.filled = output::put(rt, c, out, k.filled);
         return k;
     }
     if c == b'}' {
-        return done(k, out);
+        return done(rt, k, out);
     }
     if k.command == b'{' {
         k.command = c;
@@ -70,7 +70,7 @@ fn after(before: Kept, c: u8, out: &mut [u8]) -> Kept {
 }
 
 // The command whose brace is closed.
-fn done(before: Kept, out: &mut [u8]) -> Kept {
+fn done(rt: &HostRuntime, before: Kept, out: &mut [u8]) -> Kept {
     let mut k = before;
     let command = k.command;
     k.command = 0;
@@ -87,6 +87,6 @@ fn done(before: Kept, out: &mut [u8]) -> Kept {
     let numbers = k.numbers;
     let next = calls::called(command, outcome, numbers);
     k.outcome = next;
-    k.filled = text::shown(command, next, out, k.filled);
+    k.filled = text::shown(rt, command, next, out, k.filled);
     k
 }

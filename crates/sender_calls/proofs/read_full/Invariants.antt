@@ -1,0 +1,9 @@
+-- Each read leaves fewer bytes to fill, and never passes the end of the buffer.
+use Rattle.std.proofs.Common.{◌≤◌, ◌-◌, length}
+use Rattle.sender_calls.proofs.read_full.Given as goal
+
+abbrev pub invariant-loop-done : goal.invariant-loop-done
+invariant-loop-done l = l.done ≤ length l.buf
+
+abbrev pub decreases-loop-done : goal.decreases-loop-done
+decreases-loop-done l = length l.initial.buf - l.done
