@@ -1,4 +1,4 @@
--- Demand 3 from the laws of demand 2: the framing Shows what is due, what is due is handed out, and that reads back.
+-- Demand 3 from the laws of demand 2: the framing shows what is due, what is due is handed out, and that reads back.
 use Prim.Native.Nat.{ℕ, ◌+◌}
 use mathlib.Core.Path.{◌≡◌, refl, sym, ap, ◌∙◌}
 use mathlib.Core.Bool.{true, false≢true}

@@ -1,4 +1,4 @@
--- The listener frames what is heard in the form: each block of calls Shows what is due, if the calls after it do.
+-- The listener frames what is heard in the form: each block of calls shows what is due, if the calls after it do.
 use Prim.Native.Nat.{ℕ, ◌+◌, ◌<◌}
 use mathlib.Core.Path.{◌≡◌, refl, ap, ◌∙◌}
 use mathlib.Core.Bool.{true, false≢true, and-eq-true_iff}
@@ -22,7 +22,7 @@ use Rattle.message.specs.Spelling.{bytes_of, symbols_of}
 use Rattle.listener_laws.specs.Form.{Call, call, nothing, quietly, sounding, symbols_in, Below, none, one_more, Attempt, alone, cut_short, Attempts, no_attempt, attempt_then, Mixed, mixed_end, as_it_is, above}
 use Rattle.listener_laws.specs.Demand.{run, passes, Shows, AllShow}
 
--- with these bytes held, each call Shows what is due
+-- with these bytes held, each call shows what is due
 abbrev pub ShownFrom : List ℕ → List Call → Type 0
 ShownFrom xs calls = AllShow calls (run hear_of (holding xs) (symbols_in calls))
 

@@ -47,7 +47,7 @@ Shows nothing h = (passes h.answer ≡ true) × NoBytes h
 Shows (hands m) h = Hands m h
 Shows refusal h = (h.answer ≡ Refused symbol_above) × NoBytes h
 
--- each call Shows what is due at it
+-- each call shows what is due at it
 abbrev pub AllShow : List Call → List Heard → Type 0
 AllShow [] [] = Unit {0}
 AllShow [] (h ∷ hs) = ⊥
@@ -73,7 +73,7 @@ pub record Demand3 (hear : Listener → ℕ → Heard) (read : List ℕ → Read
       → write m buffer at ≡ outcome (Wrote (length (bytes_of m))) (take at buffer ++ (symbols_of m ++ drop (at + length (bytes_of m)) buffer))
   -- it accepts no other, so the form's messages are those that it accepts
   pub accepted : (m : Message) (buffer : List ℕ) (at n : ℕ) → (write m buffer at).answer ≡ Wrote n → range_of m ≡ InRange
-  -- whatever is heard in this form, from the empty state on, each call Shows what is due
+  -- whatever is heard in this form, from the empty state on, each call shows what is due
   pub shown : (ms : List Message) (calls : List Call) → HeardAs ms calls → AllShow calls (run hear empty_listener (symbols_in calls))
   -- the reader gives the list, in order, from the bytes handed out alone
   pub read_as : (ms : List Message) (calls : List Call) → HeardAs ms calls

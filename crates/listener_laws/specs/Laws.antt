@@ -25,7 +25,7 @@ pub record ListenerLaws : Type 0 where
   -- the state that demand 3 starts from is empty, and it is the only empty one
   pub starts_empty : Empty empty_listener
   pub one_empty : (l : Listener) → Empty l → l ≡ empty_listener
-  -- so demand 3 holds from any empty listener: each call Shows what is due, and what is handed out reads as the list
+  -- so demand 3 holds from any empty listener: each call shows what is due, and what is handed out reads as the list
   pub shown_from : (l : Listener) → Empty l → (ms : List Message) (calls : List Call) → HeardAs ms calls
       → AllShow calls (run hear_of l (symbols_in calls))
   pub read_from_lem : (l : Listener) → Empty l → (ms : List Message) (calls : List Call) → HeardAs ms calls

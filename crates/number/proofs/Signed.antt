@@ -73,7 +73,7 @@ lifted z h = rw (widened z h) (lifts z h.sfits)
 pub handed : (w : Width) {z y : ℤ} → mag z < 2 ^ hbits w → z ≡ y → to_z w (of_z w z) ≡ y
 handed w {z} h e = to_z-of_z w z (record { sfits = h }) ∙ e
 
--- the sign of a number, as a test of what the machine reads back from its bits Shows it
+-- the sign of a number, as a test of what the machine reads back from its bits shows it
 module _ (w : Width) (z : ℤ) (fits : SFits w z) where
   pub below_zero : lt_z (to_z w (of_z w z)) (pos 0) ≡ true → z ≡ negsuc (mag z)
   below_zero t = go z (rw (to_z-of_z w z fits) at t)
