@@ -1,5 +1,7 @@
 // Compass angles and their spelling on the bus: half degrees (53, 89), whole degrees with the turning way (9C, 84), and half
 // degrees by quarters (89, 84).
+#![tactic(auto)]
+
 mod spellings;
 
 ghost use Rattle.std.specs.Prelude.{◌≡◌, ◌%◌};

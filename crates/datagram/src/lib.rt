@@ -1,4 +1,6 @@
 // Symbols, whole datagrams and refusals: the words that every other layer shares.
+#![tactic(auto)]
+
 pub mod refusals;
 
 ghost use Rattle.std.specs.Prelude.{◌≡◌, ◌+◌, ◌≤◌, ◌<◌, length, drop};

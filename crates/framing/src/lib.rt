@@ -1,4 +1,6 @@
 // The records ahead of a listener: heard one by one, or several at once where a look at them tells what it would answer.
+#![tactic(auto)]
+
 ghost use Rattle.std.specs.Prelude.{◌≡◌, true, false, ◌+◌, ◌*◌, ◌≤◌, ◌<◌, length};
 ghost use Rattle.recording.specs.Record.{record_of, time_at, byte_of};
 ghost use Rattle.framing.specs.Steps.{RecordStep, GatherStep};

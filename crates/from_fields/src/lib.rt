@@ -1,4 +1,6 @@
 // From fields to a message: a command number and the fields' bytes, as C names a message.
+#![tactic(auto)]
+
 mod kinds;
 mod numbers;
 

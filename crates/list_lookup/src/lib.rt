@@ -1,4 +1,6 @@
 // The number at an index of a list of 720 constants, without the list in memory.
+#![tactic(auto)]
+
 ghost use Rattle.std.specs.Prelude.{◌≡◌, ◌+◌, ◌*◌, ◌≤◌, get_or};
 ghost use Rattle.list_lookup.specs.Rows.{four_at};
 

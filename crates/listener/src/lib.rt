@@ -1,4 +1,6 @@
 // The listener: from 9-bit bus symbols to whole datagrams, one symbol a call.
+#![tactic(auto)]
+
 ghost use Rattle.std.specs.Prelude.{◌≡◌, true, [], ◌∷◌, ◌++◌, ◌≤◌, ◌<◌};
 ghost use Rattle.listener.specs.State.{sound, empty, empty_listener, held_bytes};
 ghost use Rattle.listener.specs.Step.{hear_of, command_symbol, other_symbol, quiet, refused_by, handed};

@@ -1,4 +1,6 @@
 // One listener state in one place, changed there: the thin form of the listener for the logger.
+#![tactic(auto)]
+
 ghost use Rattle.std.specs.Prelude.{◌≡◌};
 ghost use Rattle.listener.specs.Step.{hear_of};
 

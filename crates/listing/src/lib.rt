@@ -1,4 +1,6 @@
 // The listing: a recording as lines of text, block by block, in a lent buffer.
+#![tactic(auto)]
+
 pub mod block;
 mod content;
 mod shapes;

@@ -1,4 +1,6 @@
 // Bytes, words and two's complement: the arithmetic below every field.
+#![tactic(auto)]
+
 ghost use Rattle.std.specs.Prelude.{◌≡◌, ◌≤◌, pos, neg_ℤ, nat_abs, ◌-ℤ◌};
 ghost use Rattle.std.specs.Int.{w8, w32};
 ghost use Rattle.std.proofs.Common.{to_z, of_z};

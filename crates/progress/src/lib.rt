@@ -1,4 +1,6 @@
 // What is carried from block to block of a listing: the listener, the counts, and whether the listing goes on.
+#![tactic(auto)]
+
 ghost use Rattle.std.specs.Prelude.{◌≡◌};
 ghost use Rattle.recording.specs.Record.{record_of};
 ghost use Rattle.progress.specs.Progress.{begun, counted, tallied, advanced, cut_off, placed_from};

@@ -1,4 +1,6 @@
 // The reader: from the bytes of a datagram to a typed message.
+#![tactic(auto)]
+
 mod kinds;
 
 ghost use Rattle.std.specs.Prelude.{◌≡◌, get_or};

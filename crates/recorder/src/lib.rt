@@ -1,4 +1,6 @@
 // The recording writer: a time and a symbol as one record in a lent buffer, and lists of them as a file.
+#![tactic(auto)]
+
 ghost use Rattle.std.specs.Prelude.{◌≡◌, ◌+◌, ◌*◌, ◌≤◌, length};
 ghost use Rattle.std.proofs.lemmas.List.Edits.{sets};
 ghost use Rattle.datagram.specs.Position.{outcome, stored_front};

@@ -1,4 +1,6 @@
 // The recording reader: records of eight bytes, a mark, a time and a symbol.
+#![tactic(auto)]
+
 ghost use Rattle.std.specs.Prelude.{◌≡◌};
 ghost use Rattle.recording.specs.Record.{record_of, judged_record};
 

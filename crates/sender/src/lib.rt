@@ -1,4 +1,6 @@
 // The sender: offers a datagram to the bus, symbol by symbol, and checks each against its own echo.
+#![tactic(auto)]
+
 ghost use Rattle.std.specs.Prelude.{◌≡◌, ◌<◌, ◌≤◌, length};
 ghost use Rattle.datagram.specs.Padding.{pad_to};
 ghost use Rattle.sender.specs.State.{sound, phase_sound, length_of, symbol_at};

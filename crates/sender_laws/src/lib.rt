@@ -1,1 +1,3 @@
+#![tactic(auto)]
+
 // The sender over any list of calls, as theorems. This crate has no function.

@@ -1,4 +1,6 @@
 // A recording that comes in pieces of any size: the bytes in a buffer are listed, and what is left of them moves to its front.
+#![tactic(auto)]
+
 ghost use Rattle.std.specs.Prelude.{◌≡◌, ◌≤◌, length, take, drop};
 ghost use Rattle.std.proofs.lemmas.List.Edits.{sets};
 ghost use Rattle.recording.specs.Record.{record_of};

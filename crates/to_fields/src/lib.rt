@@ -1,4 +1,6 @@
 // From a message to its fields: the numbers of rules 4.2, in table order.
+#![tactic(auto)]
+
 ghost use Rattle.std.specs.Prelude.{◌≡◌, ◌∷◌, pos, replicate};
 ghost use Rattle.number.specs.Word.{num};
 ghost use Rattle.message.specs.Fields.{fields_of};

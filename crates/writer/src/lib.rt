@@ -1,4 +1,6 @@
 // The writer: from a typed message to 9-bit symbols in a lent buffer.
+#![tactic(auto)]
+
 mod kinds;
 mod store;
 

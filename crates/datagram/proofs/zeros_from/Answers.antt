@@ -1,6 +1,6 @@
 -- `zeros_from` has seen zeros up to i, eight at a time, and the last eight decide.
 use mathlib.Core.Path.{refl, sym, ap, ◌∙◌}
-use Prim.Native.Nat.{ℕ, ◌-◌}
+use Prim.Native.Nat.{ℕ}
 use native.Mathlib.Omega.{arith}
 use lib.Dec.{eqb}
 use Rattle.datagram.proofs.Zeros.{eight_zero, eight_not, last_eight}

@@ -1,7 +1,6 @@
 -- `zeros_one_by_one` looks at each byte: those from the position on are all 0 if those from `i` on are.
 use borrow.Author.Tests.{ne_eqb}
 use mathlib.Core.Path.{sym, ap, ◌∙◌}
-use Prim.Native.Nat.{◌-◌}
 use native.Mathlib.Numerals.{add-one}
 use lib.ListN.{drop_of_length-le}
 use lib.Seq.{drop-cons}

@@ -1,5 +1,5 @@
 -- `gather` has the bytes of the first i records after i iterations; a command symbol, or their number, ends them.
-use Prim.Native.Nat.{◌+◌, ◌*◌, ◌%◌, ◌-◌}
+use Prim.Native.Nat.{◌+◌, ◌*◌, ◌%◌}
 use mathlib.Core.Path.{◌≡◌, refl}
 use native.Mathlib.Omega.{arith}
 use lib.ListN.{get_or}

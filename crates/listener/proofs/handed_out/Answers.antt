@@ -1,7 +1,7 @@
 -- `handed_out` copies the held bytes into zeros and stores the new one after them.
 -- The loop's invariant: `out` is the first `i` held bytes, padded. The measure is what is left of those held.
 use borrow.Author.Rules.{rules}
-use Prim.Native.Nat.{ℕ, ◌+◌, ◌-◌, ◌<◌}
+use Prim.Native.Nat.{ℕ, ◌+◌, ◌<◌}
 use mathlib.Core.Path.{◌≡◌}
 use mathlib.Core.List.{List, [], ◌∷◌, ◌++◌}
 use native.Mathlib.Numerals.{add-one}

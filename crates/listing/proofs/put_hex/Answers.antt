@@ -1,6 +1,5 @@
 -- `put_hex` has put the first i bytes after i iterations.
 use borrow.Author.Rules.{rules}
-use Prim.Native.Nat.{◌-◌}
 use native.Mathlib.Omega.{arith}
 use lib.Seq.{take_all}
 use Rattle.listing.proofs.Put.{put_then, put_nothing, put_length}

@@ -15,9 +15,9 @@ past_whole c = sym c.is_whole.ensures ∙ c.if-not-is_whole.false
 
 waits_are : (c : goal.Joined-wait-eq0) → c.if-wait-eq0.waits ≡ wait_of c.args.wait
 waits_are c = elim c.if-wait-eq0.branch [
-      | then-wait-eq0 w ↦ rw (eq-eqb _ 0 w.if-wait-eq0.true) (omega arith)
-      | else-wait-eq0 w ↦ rw (ne_eqb _ 0 w.if-wait-eq0.false) (omega arith)
-    ]
+  | then-wait-eq0 w ↦ rw (eq-eqb _ 0 w.if-wait-eq0.true) (omega arith)
+  | else-wait-eq0 w ↦ rw (ne_eqb _ 0 w.if-wait-eq0.false) (omega arith)
+]
 
 -- past the first refusal it goes by the wait and the limit
 decides : (c : goal.Joined-wait-eq0) → let a = c.args in offer_of a.bytes.now a.wait a.limit ≡ cond ((leb 10 c.if-wait-eq0.waits && leb c.if-wait-eq0.waits 255) && (leb 1 a.limit && leb a.limit 50)) (record { verdict = Accepted; sender = offered a.bytes.now c.if-wait-eq0.waits a.limit }) (refused_offer bad_wait_or_limit)

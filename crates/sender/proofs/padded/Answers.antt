@@ -1,7 +1,6 @@
 -- `padded` copies the bytes into zeros: what is left of the zeros stands behind them.
-use Rattle.std.proofs.Common.{◌≡◌, ℕ, ◌+◌, ◌-◌, ◌≤◌, List, ◌++◌, length, take, drop, replicate, sym, ap, ◌∙◌, arith, drop_at}
+use Rattle.std.proofs.Common.{◌≡◌, ℕ, ◌+◌, ◌-◌, ◌≤◌, List, ◌++◌, length, drop, replicate, sym, ap, ◌∙◌, arith, drop_at}
 use lib.ListN.{length-replicate, replicate-append-replicate}
-use lib.Seq.{take-length}
 use Rattle.datagram.specs.Padding.{pad_to}
 use Rattle.sender.proofs.padded.Goals as goal
 

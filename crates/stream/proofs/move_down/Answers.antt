@@ -1,5 +1,5 @@
 -- `move_down` has moved the first i bytes after i iterations; those not moved yet stand where they stood.
-use Rattle.std.proofs.Common.{◌-◌, arith, take_all, rules}
+use Rattle.std.proofs.Common.{arith, take_all, rules}
 use Rattle.listing.proofs.Put.{put_nothing, put_length}
 use Rattle.stream.proofs.Moves.{stretch, stretch_length, moved}
 use Rattle.stream.proofs.move_down.Goals as goal

@@ -1,7 +1,6 @@
 -- `list_block` walks on with what is taken: the text put so far stands before what the walk of the records left gives.
 use mathlib.Core.Path.{◌≡◌}
 use mathlib.Core.Bool.{true}
-use Prim.Native.Nat.{◌-◌}
 use lib.ListN.{length}
 use Rattle.listener.specs.State.{empty_listener}
 use Rattle.listing.specs.Text.{Kept}
