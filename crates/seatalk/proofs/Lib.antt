@@ -4,3 +4,4 @@ pub mod Spelled
 pub mod Laws
 pub mod Kept
 pub mod Recorded
+pub mod Heard

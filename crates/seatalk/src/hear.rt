@@ -94,6 +94,7 @@ fn answer(h: Heard, symbol: u16, state: &mut [u8], res: &mut [u8]) -> i32
     }
 }
 
+#[tactic(auto, using(number::proofs::Signed::handed, crate::proofs::Heard::above, crate::proofs::Heard::other_length))]
 pub fn hear(state: &mut [u8], symbol: u32, res: &mut [u8]) -> i32
     ensures { returned result state.new res.new ≡ hear_call state.old symbol res.old }
 {
