@@ -17,6 +17,7 @@ pub enum Record {
 }
 
 // The record at an offset: its time and symbol, the end, or refusal 11, 10 or 1, in that order, with the offset as the place.
+#[tactic(auto, using(crate::proofs::CutShort::cut))]
 pub fn record_at(bytes: &[u8], at: usize) -> Record
     ensures { result ≡ record_of bytes.now at }
 {

@@ -1,5 +1,5 @@
 -- `list_first` lists the first n bytes and moves those behind what was used.
-use Rattle.std.proofs.Common.{◌≡◌, ◌+◌, ◌%◌, ◌^◌, refl}
+use Rattle.std.proofs.Common.{◌≡◌, ◌+◌, ◌%◌, ◌^◌, refl, arith}
 use native.Mathlib.Nat.{sub-zero}
 use Rattle.stream.proofs.Held.{used_within, filled}
 use Rattle.stream.proofs.list_first.Goals as goal
@@ -12,7 +12,7 @@ move_down-requires c =
 pub overflow_sub-result : goal.overflow_sub-result
 overflow_sub-result c =
     let a = c.args in
-    used_within a.progress a.n a.input.now a.out.now c.requires (rw sub-zero at c.list_block-r.ensures)
+    omega (arith, used_within a.progress a.n a.input.now a.out.now c.requires (rw sub-zero at c.list_block-r.ensures))
 
 pub returns : goal.returns
 returns c =
