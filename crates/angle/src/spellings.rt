@@ -6,7 +6,7 @@ use list_lookup::number_at;
 
 // One number for each degree and turning way, 256 * U + six: in base 16 the digit U, and then six in two digits. Numbers 0 to
 // 359 turn left, numbers 360 to 719 turn right.
-const SPELLINGS: [u16; 720] = [
+static SPELLINGS: [u16; 720] = [
     // 0 to 89 degrees, turning left
     0x000, 0x400, 0x001, 0x401, 0x002, 0x402, 0x003, 0x403, 0x004, 0x404, 0x005, 0x405, 0x006,
     0x406, 0x007, 0x407, 0x008, 0x408, 0x009, 0x409, 0x00A, 0x40A, 0x00B, 0x40B, 0x00C, 0x40C,
@@ -73,11 +73,11 @@ const SPELLINGS: [u16; 720] = [
     0xF26, 0xB27, 0xF27, 0xB28, 0xF28, 0xB29, 0xF29, 0xB2A, 0xF2A, 0xB2B, 0xF2B, 0xB2C,
 ];
 
-// The list as an array: each of its 720 numbers reads back as its own degree and turning way.
-fn spelling_list() -> [u16; 720]
-    ensures { first_fault 0 result ≡ 720 }
+// The list: each of its 720 numbers reads back as its own degree and turning way.
+fn spelling_list() -> &'static [u16; 720]
+    ensures { first_fault 0 result.now ≡ 720 }
 {
-    SPELLINGS
+    &SPELLINGS
 }
 
 // The number at an index of the list.

@@ -1,13 +1,13 @@
 -- A list in an array of n: the list, and then zeros.
-use Rattle.std.specs.Prelude.{ℕ, zero, suc, ◌+◌, ◌-◌, ◌*◌, Bool, true, ◌&&◌, List, [], ◌∷◌, ◌++◌, eqb, length, replicate, get_or}
+use Rattle.std.specs.Prelude.{ℕ, zero, suc, ◌+◌, ◌-◌, ◌*◌, Bool, List, ◌++◌, eqb, length, replicate, get_or}
+use Rattle.std.specs.List.{list_all}
 
 unfoldable pub pad_to : ℕ → List ℕ → List ℕ
 pad_to n xs = xs ++ replicate (n - length xs) 0
 
 -- every number is 0
 abbrev pub all_zero : List ℕ → Bool
-all_zero [] = true
-all_zero (x ∷ xs) = eqb x 0 && all_zero xs
+all_zero = list_all (λ x. eqb x 0)
 
 -- n bytes from the k-th after a position on as one number, low byte first
 abbrev pub word_from : List ℕ → ℕ → ℕ → ℕ → ℕ

@@ -1,5 +1,6 @@
 -- What a whole datagram is, and how its bytes sound as 9-bit symbols (rules 1.2 to 1.4).
-use Rattle.std.specs.Prelude.{ℕ, ◌+◌, ◌%◌, Bool, true, ◌&&◌, List, [], ◌∷◌, leb, ltb, eqb, length, get_or}
+use Rattle.std.specs.Prelude.{ℕ, ◌+◌, ◌%◌, Bool, ◌&&◌, List, [], ◌∷◌, leb, ltb, eqb, length, get_or}
+use Rattle.std.specs.List.{list_all}
 
 -- the total length that a second byte declares: 3 plus its low four bits
 abbrev pub declared : ℕ → ℕ
@@ -11,8 +12,7 @@ whole bytes = leb 3 (length bytes) && (leb (length bytes) 18 && eqb (length byte
 
 -- every number is below a limit
 abbrev pub all_below : ℕ → List ℕ → Bool
-all_below limit [] = true
-all_below limit (x ∷ xs) = ltb x limit && all_below limit xs
+all_below limit = list_all (λ x. ltb x limit)
 
 -- every number is a byte
 abbrev pub all_bytes : List ℕ → Bool

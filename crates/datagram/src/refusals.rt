@@ -86,7 +86,7 @@ fn refusal_at(number: u8, offset: usize) -> Refusal
     ensures { result ≡ refusal_at number offset }
 {
     Refusal {
-        number: number,
+        number,
         place: offset as u64,
     }
 }

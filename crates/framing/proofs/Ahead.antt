@@ -20,8 +20,7 @@ use Rattle.listener.specs.declared.Heard.{Heard}
 use Rattle.listener.specs.declared.Answer.TheVariants.{Opened, Cancelled, Stray, Kept}
 use Rattle.listener.proofs.Held.{Unfinished, on_command, on_other}
 use Rattle.listener.proofs.Started.{other_reaches, command_cancels}
-use Rattle.recording.specs.declared.Record.TheVariants as record-case
-use Rattle.recording.specs.Record.{record_of, time_at, byte_of}
+use Rattle.recording.specs.Record.{record_of, time_at, byte_of, heard}
 use Rattle.progress.specs.declared.Progress.{Progress}
 use Rattle.progress.specs.Progress.{advanced, counted, tallied}
 use Rattle.framing.specs.Walk.{Line, Walk, behind, walk_from, entry_of}
@@ -34,7 +33,7 @@ goes_on line s room more next time q h = behind (entry_of line time h) (walk_fro
 
 module _ (line : Line) (s : List ℕ) (at left room : ℕ) (some : 0 < left) (roomy : 512 ≤ room) (time : ℕ) where
   -- a record that hands nothing out
-  quietly : (p : Progress) (symbol : ℕ) (h : Heard) → record_of s at ≡ record-case.Heard time symbol
+  quietly : (p : Progress) (symbol : ℕ) (h : Heard) → record_of s at ≡ heard time symbol
       → hear_of p.listener symbol ≡ h → entry_of line time h ≡ []
       → walk_from line left s at p room ≡ walk_from line (left - 1) s (at + 8) (advanced p h) room
   quietly p symbol h heard e none =
@@ -43,14 +42,14 @@ module _ (line : Line) (s : List ℕ) (at left room : ℕ) (some : 0 < left) (ro
       ∙ rw (none, sub-zero)
 
   -- a stray
-  pub walk_stray : (p : Progress) (b : ℕ) → b < 256 → record_of s at ≡ record-case.Heard time b → p.listener ≡ empty_listener
+  pub walk_stray : (p : Progress) (b : ℕ) → b < 256 → record_of s at ≡ heard time b → p.listener ≡ empty_listener
       → walk_from line left s at p room ≡ walk_from line (left - 1) s (at + 8) (tallied p false false true) room
   walk_stray p b low heard empty =
       quietly p b (quiet Stray empty_listener) heard (ap (λ (l : Listener). hear_of l b) empty ∙ on_other [] b (omega arith) low) refl
       ∙ rw empty
 
   -- a command symbol where something is held: as where nothing is, with one datagram more cancelled
-  walk_over : (p : Progress) (xs : List ℕ) (b : ℕ) → b < 256 → record_of s at ≡ record-case.Heard time (256 + b)
+  walk_over : (p : Progress) (xs : List ℕ) (b : ℕ) → b < 256 → record_of s at ≡ heard time (256 + b)
       → p.listener ≡ holding xs → 0 < length xs → Unfinished xs
       → walk_from line left s at p room
       ≡ walk_from line left s at (record { listener = empty_listener; handed = p.handed; cancelled = counted true p.cancelled; stray = p.stray }) room
@@ -135,7 +134,7 @@ module _ (s : List ℕ) (at m n : ℕ) (bytes : List ℕ) (g : Gathering s at by
         ∙ rw (all, less, next, empty)
 
     -- a command symbol before the datagram is whole
-    pub walk_cancelled : 0 < m → m < n → m < left → (time b : ℕ) → b < 256 → record_of s (at + 8 * m) ≡ record-case.Heard time (256 + b)
+    pub walk_cancelled : 0 < m → m < n → m < left → (time b : ℕ) → b < 256 → record_of s (at + 8 * m) ≡ heard time (256 + b)
         → walk_from line left s at p room ≡ walk_from line (left - m) s (at + 8 * m) (tallied p false true false) room
     walk_cancelled l h more time b low heard =
         so_far m l (omega arith) h

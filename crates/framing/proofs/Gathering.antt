@@ -8,13 +8,12 @@ use borrow.Author.Tests.{le-leb, eq-eqb, ne_eqb}
 use lib.ListN.{length, get_or, set, length-set}
 use lib.Seq.{get_or-set_same, get_or-set_other}
 use Rattle.number.specs.Word.{word}
-use Rattle.recording.specs.declared.Record.TheVariants.{Heard}
-use Rattle.recording.specs.Record.{record_of, byte_of, time_at, symbol_at}
+use Rattle.recording.specs.Record.{record_of, byte_of, time_at, symbol_at, heard}
 
 -- a record with the mark, and a symbol of this byte with the command bit, 1, or without it, 0
 pub carried : (s : List ℕ) (at command : ℕ) → at + 8 ≤ length s → command ≤ 1
     → word (get_or s at 0) (byte_of s at 1) ≡ 0x5453 → get_or s at 0 < 256 → byte_of s at 6 < 256 → byte_of s at 7 ≡ command
-    → record_of s at ≡ Heard (time_at s at) (256 * command + byte_of s at 6)
+    → record_of s at ≡ heard (time_at s at) (256 * command + byte_of s at 6)
 unfolding record_of
 carried s at command h one mark first low high =
     let symbol : symbol_at s at ≡ 256 * command + byte_of s at 6 = omega arith in
@@ -27,20 +26,20 @@ plain {b} = omega arith
 -- the first i records carry these bytes, the first with the command bit
 pub record Gathering (s : List ℕ) (at : ℕ) (bytes : List ℕ) (i : ℕ) : Type 0 where
   pub long : length bytes ≡ 18
-  pub opens : record_of s at ≡ Heard (time_at s at) (256 + get_or bytes 0 0)
+  pub opens : record_of s at ≡ heard (time_at s at) (256 + get_or bytes 0 0)
   pub first : get_or bytes 0 0 < 256
   pub follows : (j : ℕ) → 0 < j → j < i
-      → (get_or bytes j 0 ≡ byte_of s (at + 8 * j) 6) × (get_or bytes j 0 < 256) × (record_of s (at + 8 * j) ≡ Heard (time_at s (at + 8 * j)) (get_or bytes j 0))
+      → (get_or bytes j 0 ≡ byte_of s (at + 8 * j) 6) × (get_or bytes j 0 < 256) × (record_of s (at + 8 * j) ≡ heard (time_at s (at + 8 * j)) (get_or bytes j 0))
 
 module _ (s : List ℕ) (at : ℕ) (bytes : List ℕ) where
-  pub gathered_one : length bytes ≡ 18 → record_of s at ≡ Heard (time_at s at) (256 * 1 + byte_of s at 6) → byte_of s at 6 < 256
+  pub gathered_one : length bytes ≡ 18 → record_of s at ≡ heard (time_at s at) (256 * 1 + byte_of s at 6) → byte_of s at 6 < 256
       → Gathering s at (set bytes 0 (byte_of s at 6)) 1
   gathered_one long e low =
       let same : get_or (set bytes 0 (byte_of s at 6)) 0 0 ≡ byte_of s at 6 = get_or-set_same bytes 0 (byte_of s at 6) 0 (omega arith) in
       record { long = length-set bytes 0 (byte_of s at 6) ∙ long; opens = rw same e; first = rw same low; follows = λ j l h. absurd (omega arith) }
 
   pub gathered_more : (i : ℕ) → Gathering s at bytes i → 0 < i → i < 18
-      → record_of s (at + 8 * i) ≡ Heard (time_at s (at + 8 * i)) (256 * 0 + byte_of s (at + 8 * i) 6) → byte_of s (at + 8 * i) 6 < 256
+      → record_of s (at + 8 * i) ≡ heard (time_at s (at + 8 * i)) (256 * 0 + byte_of s (at + 8 * i) 6) → byte_of s (at + 8 * i) 6 < 256
       → Gathering s at (set bytes i (byte_of s (at + 8 * i) 6)) (i + 1)
   gathered_more i g some below e low =
       let b = byte_of s (at + 8 * i) 6 in
@@ -54,7 +53,7 @@ module _ (s : List ℕ) (at : ℕ) (bytes : List ℕ) where
     where
       Follows : ℕ → ℕ → Type 0
       Follows j b =
-          (b ≡ byte_of s (at + 8 * j) 6) × (b < 256) × (record_of s (at + 8 * j) ≡ Heard (time_at s (at + 8 * j)) b)
+          (b ≡ byte_of s (at + 8 * j) 6) × (b < 256) × (record_of s (at + 8 * j) ≡ heard (time_at s (at + 8 * j)) b)
 
       go : (j : ℕ) → 0 < j → j < i + 1 → Dec (j ≡ i) → Follows j (get_or (set bytes i (byte_of s (at + 8 * i) 6)) j 0)
       go j l h (yes q) =

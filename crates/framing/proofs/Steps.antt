@@ -1,4 +1,5 @@
 -- What is taken at a time is what the walk takes.
+use Rattle.std.specs.Prelude.{Ok, Some}
 use mathlib.Core.Path.{◌≡◌, refl, sym, ap, ◌∙◌}
 use mathlib.Core.Bool.{Bool, true, false, cond}
 use mathlib.Core.List.{List, []}
@@ -15,34 +16,30 @@ use Rattle.listener.specs.State.{empty_listener}
 use Rattle.listener.specs.Step.{hear_of}
 use Rattle.listener.specs.declared.Listener.{Listener}
 use Rattle.listener.specs.declared.Heard.{Heard}
-use Rattle.recording.specs.declared.Record.TheVariants as record-case
-use Rattle.recording.specs.Record.{record_of, time_at, byte_of}
+use Rattle.recording.specs.declared.Record.{Record}
+use Rattle.recording.specs.Record.{record_of, time_at, byte_of, heard}
 use Rattle.progress.specs.declared.Progress.{Progress}
-use Rattle.progress.specs.declared.Stop.{Stop}
 use Rattle.framing.specs.declared.Gathered.{Gathered}
 use Rattle.framing.specs.declared.HeardRecord.{HeardRecord}
 use Rattle.listener.specs.Answers.{is_handed}
 use Rattle.progress.specs.Progress.{advanced, tallied}
-use Rattle.framing.specs.Walk.{Line, walk, behind, walk_from, records_from}
-use Rattle.framing.specs.Steps.{GatherStep, RecordStep, entry}
+use Rattle.framing.specs.Walk.{Line, behind, walk_from, records_from}
+use Rattle.framing.specs.Steps.{GatherStep, RecordGoes, entry}
 use Rattle.framing.proofs.Ahead.{walk_stray, walk_cancelled, walk_ahead}
 use Rattle.framing.proofs.Gathering.{Gathering}
 use Rattle.listener.proofs.Handed.{hands, declared_whole}
 use Rattle.framing.proofs.Walks.{walk_heard}
 
--- where no record is used, nothing is said
-pub unused : {A : Type 0} {g : Gathered} → g ≡ record { used = 0; count = 0; time = 0; cancelled = false; stray = false } → 0 < g.used → A
-unused {A} {g} e h = absurd (omega (arith, rw e at h))
-
 -- records that put no text
 module _ {s bytes : List ℕ} {at used : ℕ} {cancelled stray : Bool} where
-  silently : used ≤ records_from s at
+  silently : 0 < used → used ≤ records_from s at
       → ((line : Line) (p : Progress) (room : ℕ) → p.listener ≡ empty_listener → 512 ≤ room
       → walk_from line (records_from s at) s at p room ≡ walk_from line (records_from s at - used) s (at + 8 * used) (tallied p false cancelled stray) room)
       → (g : Gathered) → g ≡ record { used = used; count = 0; time = 0; cancelled = cancelled; stray = stray } → GatherStep s at bytes g
-  silently fits goes g e =
+  silently some fits goes g e =
       rw e
       (record {
+        some = some;
         fits = fits;
         most = omega arith;
         handed = λ h. absurd (omega arith);
@@ -50,17 +47,17 @@ module _ {s bytes : List ℕ} {at used : ℕ} {cancelled stray : Bool} where
       })
 
 module _ {s bytes : List ℕ} {at : ℕ} where
-  pub gathered_stray : (b : ℕ) → 0 < records_from s at → b < 256 → record_of s at ≡ record-case.Heard (time_at s at) b
+  pub gathered_stray : (b : ℕ) → 0 < records_from s at → b < 256 → record_of s at ≡ heard (time_at s at) b
       → (g : Gathered) → g ≡ record { used = 1; count = 0; time = 0; cancelled = false; stray = true } → GatherStep s at bytes g
   gathered_stray b some low heard =
-      silently (omega arith)
+      silently (omega arith) (omega arith)
       (λ line p room empty roomy. walk_stray line s at (records_from s at) room some roomy (time_at s at) p b low heard empty)
 
 module _ {s bytes : List ℕ} {at m n : ℕ} (a : Gathering s at bytes m) (size : n ≡ declared (byte_of s at 14)) (fits : n ≤ records_from s at) where
-  pub gathered_cancelled : (b : ℕ) → 0 < m → m < n → b < 256 → record_of s (at + 8 * m) ≡ record-case.Heard (time_at s (at + 8 * m)) (256 + b)
+  pub gathered_cancelled : (b : ℕ) → 0 < m → m < n → b < 256 → record_of s (at + 8 * m) ≡ heard (time_at s (at + 8 * m)) (256 + b)
       → (g : Gathered) → g ≡ record { used = m; count = 0; time = 0; cancelled = true; stray = false } → GatherStep s at bytes g
   gathered_cancelled b some below low heard =
-      silently (omega arith)
+      silently some (omega arith)
       (λ line p room empty roomy. walk_cancelled s at m n bytes a size (omega arith) line p (records_from s at) room (omega arith) roomy empty some below (omega arith) (time_at s (at + 8 * m)) b low heard)
 
   pub gathered_whole : m ≡ n → (time : ℕ) → time ≡ time_at s (at + 8 * (n - 1))
@@ -72,6 +69,7 @@ module _ {s bytes : List ℕ} {at m n : ℕ} (a : Gathering s at bytes m) (size 
       long ∙ size ∙ ap declared (sym (get_or-take n bytes 1 0 (omega (arith, size)) ∙ second)) in
       rw (e, last)
       (record {
+        some = omega (arith, size);
         fits = fits;
         most = omega (arith, size);
         handed = λ h. declared_whole (take n bytes) declares;
@@ -101,31 +99,19 @@ module _ (time symbol : ℕ) (l : Listener) where
   is_handed_lem false e p = absurd (omega (arith, (hands l symbol).1 e))
 
 module _ {s : List ℕ} {at : ℕ} {p : Progress} where
-  pub record_heard : (time symbol : ℕ) (t : HeardRecord) → record_of s at ≡ record-case.Heard time symbol
-      → t.progress ≡ advanced p (hear_of p.listener symbol) → t.used ≡ 1 → t.time ≡ time
-      → t.count ≡ (hear_of p.listener symbol).count → t.bytes ≡ (hear_of p.listener symbol).bytes
-      → length t.bytes ≡ 18 → RecordStep s at p t
-  record_heard time symbol t heard progress used at-time count bytes long =
+  pub record_heard : (r : Record) (t : HeardRecord) → record_of s at ≡ Ok (Some r)
+      → t.progress ≡ advanced p (hear_of p.listener r.symbol) → t.time ≡ r.time
+      → t.count ≡ (hear_of p.listener r.symbol).count → t.bytes ≡ (hear_of p.listener r.symbol).bytes
+      → length t.bytes ≡ 18 → RecordGoes s at p t
+  record_heard r t heard progress at-time count bytes long =
       let l = p.listener in
       record {
-        long = λ one. long;
-        most = rw count (most_heard time symbol l _ refl);
-        handed = rw (count, bytes, progress) (λ some. let w = (hands l symbol).0 (is_handed_lem time symbol l _ refl some) in (w.1, w.2));
-        ends = λ z. absurd (omega (arith, used));
-        goes = λ one line left room some roomy.
+        long = long;
+        most = rw count (most_heard r.time r.symbol l _ refl);
+        handed = rw (count, bytes, progress) (λ some. let w = (hands l r.symbol).0 (is_handed_lem r.time r.symbol l _ refl some) in (w.1, w.2));
+        goes = λ line left room some roomy.
             rw (count, bytes, progress, at-time)
-            (walk_heard line s at p left room some time symbol roomy heard ∙ rw (entry_taken time symbol l line _ refl));
-      }
-
-  pub record_ends : (stop : Stop) (t : HeardRecord) → ((line : Line) (left room : ℕ) → 0 < left → 512 ≤ room → walk_from line left s at p room ≡ walk [] p at stop)
-      → t.used ≡ 0 → t.count ≡ 0 → t.stop ≡ stop → RecordStep s at p t
-  record_ends stop t ends used count e =
-      record {
-        long = λ one. absurd (omega (arith, used));
-        most = omega (arith, count);
-        handed = λ some. absurd (omega (arith, count));
-        ends = λ z. rw e ends;
-        goes = λ one. absurd (omega (arith, used));
+            (walk_heard line s at p left room some r.time r.symbol roomy heard ∙ rw (entry_taken r.time r.symbol l line _ refl));
       }
 
 -- one step: these records are used, in the way of the walk
@@ -140,13 +126,13 @@ pub record Stepped (line : Line) (s : List ℕ) (at left : ℕ) (q : Progress) (
       ≡ behind (entry line time (take count bytes)) (walk_from line (left - used) s (at + 8 * used) p (room - length (entry line time (take count bytes))))
 
 module _ {line : Line} {s : List ℕ} {at left room : ℕ} {q : Progress} (roomy : 512 ≤ room) {bytes : List ℕ} {p : Progress} {empty : Bool} {used count time : ℕ} where
-  pub stepped_gather : {stored : List ℕ} (g : Gathered) → GatherStep s at stored g → left ≡ records_from s at → length stored ≡ 18 → 0 < g.used → q.listener ≡ empty_listener
+  pub stepped_gather : {stored : List ℕ} (g : Gathered) → GatherStep s at stored g → left ≡ records_from s at → length stored ≡ 18 → q.listener ≡ empty_listener
       → bytes ≡ stored → p ≡ tallied q (ltb 0 g.count) g.cancelled g.stray → used ≡ g.used → count ≡ g.count
       → time ≡ g.time → Stepped line s at left q room bytes p empty used count time
-  stepped_gather g step all long some was-empty eb ep eu ec et =
+  stepped_gather g step all long was-empty eb ep eu ec et =
       rw (all, eb, ep, eu, ec, et)
       (record {
-        some = some;
+        some = step.some;
         fits = step.fits;
         long = long;
         most = step.most;
@@ -155,17 +141,17 @@ module _ {line : Line} {s : List ℕ} {at left room : ℕ} {q : Progress} (roomy
         goes = step.goes line q room was-empty roomy;
       })
 
-  pub stepped_record : (t : HeardRecord) → RecordStep s at q t → 0 < t.used → 0 < left
+  pub stepped_record : (t : HeardRecord) → RecordGoes s at q t → 0 < left
       → bytes ≡ t.bytes → p ≡ t.progress → empty ≡ ltb 0 t.count → used ≡ 1 → count ≡ t.count → time ≡ t.time
       → Stepped line s at left q room bytes p empty used count time
-  stepped_record t step some more eb ep ei eu ec et =
+  stepped_record t step more eb ep ei eu ec et =
       rw (eb, ep, ei, eu, ec, et)
       (record {
         some = omega arith;
         fits = more;
-        long = step.long some;
+        long = step.long;
         most = step.most;
         handed = λ h. (step.handed h).0;
         rests = λ e. (step.handed (ltb-true _ _ e)).1;
-        goes = step.goes some line left room more roomy;
+        goes = step.goes line left room more roomy;
       })

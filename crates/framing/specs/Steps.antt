@@ -1,5 +1,6 @@
 -- What is taken at a time: records that an empty listener takes at once, or one record.
-use Rattle.std.specs.Prelude.{ℕ, ◌+◌, ◌-◌, ◌*◌, ◌≤◌, ◌<◌, ◌≡◌, true, cond, List, [], eqb, ltb, length, take}
+use Rattle.std.specs.Prelude.{ℕ, ◌+◌, ◌-◌, ◌*◌, ◌≤◌, ◌<◌, ◌≡◌, true, cond, List, [], eqb, ltb, length, take, Option, Some, None, Result, Ok, Err}
+use Rattle.datagram.specs.declared.Refusal.{Refusal}
 use Rattle.datagram.specs.Whole.{whole}
 use Rattle.listener.specs.State.{empty_listener}
 use Rattle.progress.specs.declared.Progress.{Progress}
@@ -12,9 +13,10 @@ use Rattle.framing.specs.Walk.{Line, walk, behind, walk_from, records_from, line
 abbrev pub entry : Line → ℕ → List ℕ → List ℕ
 entry line time bytes = cond (eqb (length bytes) 0) [] (line time bytes)
 
--- A listener that holds nothing takes these records as the walk does, whatever a line is, and holds nothing after them. How many
--- records are taken at once is left open, and so are the bytes past those handed out.
+-- A listener that holds nothing takes these records, one at least, as the walk does, whatever a line is, and holds nothing after
+-- them. How many records are taken at once is left open, and so are the bytes past those handed out.
 pub record GatherStep (s : List ℕ) (at : ℕ) (bytes : List ℕ) (g : Gathered) : Type 0 where
+  pub some : 0 < g.used
   pub fits : g.used ≤ records_from s at
   pub most : g.count ≤ 18
   pub handed : 0 < g.count → whole (take g.count bytes) ≡ true
@@ -25,14 +27,22 @@ pub record GatherStep (s : List ℕ) (at : ℕ) (bytes : List ℕ) (g : Gathered
       (tallied p (ltb 0 g.count) g.cancelled g.stray)
       (room - length (entry line g.time (take g.count bytes))))
 
--- the walk ends here, or it goes on behind the text of the record that was used
-pub record RecordStep (s : List ℕ) (at : ℕ) (p : Progress) (t : HeardRecord) : Type 0 where
-  pub long : 0 < t.used → length t.bytes ≡ 18
+-- the walk goes on behind the text of the record that was heard
+pub record RecordGoes (s : List ℕ) (at : ℕ) (p : Progress) (t : HeardRecord) : Type 0 where
+  pub long : length t.bytes ≡ 18
   pub most : t.count ≤ 18
   pub handed : 0 < t.count → (whole (take t.count t.bytes) ≡ true) × (t.progress.listener ≡ empty_listener)
-  pub ends : t.used ≡ 0 → (line : Line) (left room : ℕ) → 0 < left → line_room ≤ room
-      → walk_from line left s at p room ≡ walk [] p at t.stop
-  pub goes : 0 < t.used → (line : Line) (left room : ℕ) → 0 < left → line_room ≤ room
+  pub goes : (line : Line) (left room : ℕ) → 0 < left → line_room ≤ room
       → walk_from line left s at p room
       ≡ behind (entry line t.time (take t.count t.bytes))
       (walk_from line (left - 1) s (at + 8) t.progress (room - length (entry line t.time (take t.count t.bytes))))
+
+-- the walk ends here
+pub record RecordEnds (s : List ℕ) (at : ℕ) (p : Progress) (stop : Option Refusal) : Type 0 where
+  pub ends : (line : Line) (left room : ℕ) → 0 < left → line_room ≤ room → walk_from line left s at p room ≡ walk [] p at stop
+
+-- the record was heard, or none stands there, or it is refused
+abbrev pub RecordStep : List ℕ → ℕ → Progress → Result (Option HeardRecord) Refusal → Type 0
+RecordStep s at p (Ok (Some t)) = RecordGoes s at p t
+RecordStep s at p (Ok None) = RecordEnds s at p None
+RecordStep s at p (Err r) = RecordEnds s at p (Some r)

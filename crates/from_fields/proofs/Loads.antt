@@ -1,32 +1,26 @@
 -- The numbers that bytes say, one by one.
-use mathlib.Core.Path.{◌≡◌, refl}
+use Rattle.std.specs.Int.{from_le_bytes}
+use mathlib.Core.Path.{◌≡◌, refl, ap}
 use mathlib.Core.List.{List, [], ◌∷◌}
 use Prim.Native.Nat.{ℕ, zero, suc, ◌+◌, ◌*◌, ◌≤◌, ◌<◌}
 use native.Mathlib.Omega.{arith}
 use lib.IntN.{pos}
-use lib.ListN.{length, get_or, take}
+use lib.ListN.{length, take, drop}
 use mir.Syntax.{w32}
 use mir.Val.{to_z}
-use Rattle.number.specs.Word.{long}
 use Rattle.from_fields.specs.Numbers.{numbers_of}
 use Rattle.from_fields.specs.Naming.{signed}
 
--- the 32 bits from a position on
-abbrev pub bits_from : List ℕ → ℕ → ℕ
-bits_from fs at = long (get_or fs at 0) (get_or fs (at + 1) 0) (get_or fs (at + 2) 0) (get_or fs (at + 3) 0)
-
-pub within : (fs : List ℕ) (i : ℕ) → 4 * i + 4 ≤ length fs → signed (numbers_of fs) i ≡ to_z w32 (bits_from fs (4 * i))
+-- the four bytes from a position on
+pub within : (fs : List ℕ) (i : ℕ) → 4 * i + 4 ≤ length fs → to_z w32 (from_le_bytes w32 (take 4 (drop (4 * i) fs))) ≡ signed (numbers_of fs) i
 within [] i h = absurd (omega arith)
 within (a ∷ []) i h = absurd (omega arith)
 within (a ∷ b ∷ []) i h = absurd (omega arith)
 within (a ∷ b ∷ c ∷ []) i h = absurd (omega arith)
-within (a ∷ b ∷ c ∷ d ∷ rest) zero h = refl
+within (a ∷ b ∷ c ∷ d ∷ rest) zero h = ap (to_z w32) (omega arith)
 within (a ∷ b ∷ c ∷ d ∷ rest) (suc i) h =
-    let e0 : 4 * suc i ≡ suc (suc (suc (suc (4 * i)))) = omega arith in
-    let e1 : suc (suc (suc (suc (4 * i)))) + 1 ≡ suc (suc (suc (suc (4 * i + 1)))) = omega arith in
-    let e2 : suc (suc (suc (suc (4 * i)))) + 2 ≡ suc (suc (suc (suc (4 * i + 2)))) = omega arith in
-    let e3 : suc (suc (suc (suc (4 * i)))) + 3 ≡ suc (suc (suc (suc (4 * i + 3)))) = omega arith in
-    rw (e0, e1, e2, e3) (within rest i (omega arith))
+    let e : 4 * suc i ≡ suc (suc (suc (suc (4 * i)))) = omega arith in
+    rw e (within rest i (omega arith))
 
 pub past : (fs : List ℕ) (i : ℕ) → length fs < 4 * i + 4 → signed (numbers_of fs) i ≡ pos 0
 past [] i h = refl

@@ -1,6 +1,6 @@
 -- The message that a command and its fields' numbers name: refusal 4, then 5, then 7 for a flag that is neither 0 nor 1
 -- (rules 11.5).
-use Rattle.std.specs.Prelude.{ℕ, zero, suc, ◌-◌, ◌*◌, Bool, cond, List, [], ◌∷◌, leb, eqb, ℤ, pos, length, get_or, take}
+use Rattle.std.specs.Prelude.{ℕ, ◌-◌, ◌*◌, Bool, cond, List, [], ◌∷◌, leb, eqb, ℤ, pos, length, get_or, take, Result, Option, Ok, Err, Some, None, ⊤}
 use Rattle.std.specs.Int.{w32}
 use Rattle.std.proofs.Common.{of_z}
 use Rattle.datagram.specs.Refusals.{unknown_command, wrong_length, out_of_range}
@@ -8,15 +8,11 @@ use Rattle.message.specs.declared.Kind.{Kind}
 use Rattle.message.specs.declared.Kind.TheVariants as kind
 use Rattle.message.specs.declared.Message.{Message}
 use Rattle.message.specs.declared.Message.TheVariants.{Depth, WindAngle, WindSpeed, Speed, Trip, Total, Logs, Speeds, Water, Lamp, Latitude, Longitude, Ground, Course, Time, Date, Pilot, Key, Heading, Variation, Turn}
-use Rattle.message.specs.declared.Lookup.{Lookup}
-use Rattle.message.specs.declared.Lookup.TheVariants.{Found, Unknown}
-use Rattle.message.specs.declared.Verdict.{Verdict}
-use Rattle.message.specs.declared.Verdict.TheVariants as verdict
 use Rattle.message.specs.Table.{find_of}
 use Rattle.message.specs.Range.{range_of}
-use Rattle.from_fields.specs.declared.Naming.{Naming}
-use Rattle.from_fields.specs.declared.Naming.TheVariants.{Named, Refused}
 use Rattle.from_fields.specs.Numbers.{numbers_of}
+use Rattle.datagram.specs.declared.Refusal.{Refusal}
+use Rattle.message.specs.declared.Row.{Row}
 
 -- field i, counted from 0; 0 past the end
 abbrev pub signed : List ℤ → ℕ → ℤ
@@ -103,32 +99,27 @@ message_of kind.Heading zs = Heading (natural zs 0) (natural zs 1) (on zs 2)
 message_of kind.Variation zs = Variation (signed zs 0)
 message_of kind.Turn zs = Turn (natural zs 0) (on zs 1) (signed zs 2)
 
--- n fields from k on
-abbrev pub fields_from : ℕ → ℕ → List ℕ
-fields_from k zero = []
-fields_from k (suc n) = k ∷ fields_from (suc k) n
+-- the first of these flags that is neither 0 nor 1, if there is one
+abbrev pub bad_flag : List ℕ → List ℤ → Option ℕ
+bad_flag [] zs = None
+bad_flag (k ∷ ks) zs = cond (leb (natural zs (k - 1)) 1) (bad_flag ks zs) (Some k)
 
--- the first of these flags that is neither 0 nor 1, or 0 where each is a flag
-abbrev pub bad_flag : List ℕ → List ℤ → ℕ
-bad_flag [] zs = 0
-bad_flag (k ∷ ks) zs = cond (leb (natural zs (k - 1)) 1) (bad_flag ks zs) k
+abbrev pub after_range : Result ⊤ Refusal → ℕ → Result Message Refusal
+after_range (Ok tt) k = Err (out_of_range k)
+after_range (Err r) k = Err r
 
-abbrev pub after_range : Verdict → ℕ → Naming
-after_range verdict.InRange k = Refused (out_of_range k)
-after_range (verdict.Refused r) k = Refused r
-
--- flag k is bad, or none where k is 0; the fields before it, taken alone, are judged before it
-abbrev pub flagged : Kind → List ℤ → ℕ → Naming
-flagged kind zs zero = Named (message_of kind zs)
-flagged kind zs (suc k) = after_range (range_of (message_of kind (take k zs))) (suc k)
+-- where flag k is bad, the fields before it, taken alone, are judged before it
+abbrev pub flagged : Kind → List ℤ → Option ℕ → Result Message Refusal
+flagged kind zs None = Ok (message_of kind zs)
+flagged kind zs (Some k) = after_range (range_of (message_of kind (take (k - 1) zs))) k
 
 -- by the command's row: 5 for another number of bytes than the kind's fields need
-abbrev pub named_as : Lookup → List ℕ → Naming
-named_as Unknown fields = Refused unknown_command
-named_as (Found row) fields =
+abbrev pub named_as : Option Row → List ℕ → Result Message Refusal
+named_as None fields = Err unknown_command
+named_as (Some row) fields =
     cond (eqb (length fields) (4 * count_of row.kind))
     (flagged row.kind (numbers_of fields) (bad_flag (flags_of row.kind) (numbers_of fields)))
-    (Refused wrong_length)
+    (Err wrong_length)
 
-unfoldable pub named_of : ℕ → List ℕ → Naming
+unfoldable pub named_of : ℕ → List ℕ → Result Message Refusal
 named_of command fields = named_as (find_of command) fields

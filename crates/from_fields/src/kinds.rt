@@ -1,7 +1,7 @@
 // What stands in the fields of each kind: their number, the flags among them, and the message that they make.
-ghost use Rattle.std.specs.Prelude.{◌≡◌, cond, ◌-◌, ◌≤◌, eqb};
+ghost use Rattle.std.specs.Prelude.{◌≡◌};
 ghost use Rattle.from_fields.specs.Numbers.{numbers_of};
-ghost use Rattle.from_fields.specs.Naming.{count_of, flags_of, bad_flag, message_of, fields_from};
+ghost use Rattle.from_fields.specs.Naming.{count_of, flags_of, bad_flag, message_of};
 
 use crate::numbers::{natural_at, on_at, signed_at};
 use message::{Kind, Message};
@@ -36,55 +36,33 @@ pub fn count_of(kind: Kind) -> u8
     }
 }
 
-// The first of the flags from..end, counted from 1, that is neither 0 nor 1; 0 where each is one.
-fn first_bad(fields: &[u8], from: u8, end: u8) -> u8
-    requires { (1 ≤ from) × (from ≤ end) }
-    ensures { result ≡ bad_flag (fields_from from (end - from)) (numbers_of fields.now) }
+// The first of these fields, counted from 1, that is neither 0 nor 1.
+fn first_bad(flags: &[u8], fields: &[u8]) -> Option<u8>
+    ensures { result ≡ bad_flag flags.now (numbers_of fields.now) }
 {
-    let mut k = from;
-    while k < end {
-        if 1 < natural_at(fields, k - 1) {
-            return k;
+    for &k in flags {
+        if 1 < natural_at(fields, k.saturating_sub(1)) {
+            return Some(k);
         }
-        k += 1;
     }
-    0
+    None
 }
 
-// The first bad flag of two stretches, each given by its first; 0 where neither has one.
-fn first_flag(first: u8, later: u8) -> u8
-    ensures { result ≡ cond (eqb first 0) later first }
-{
-    if first == 0 { later } else { first }
-}
-
-// The kind's first bad flag, counted from 1; 0 where there is none.
+// The kind's first bad flag, counted from 1.
 #[tactic(auto, unfolding(crate::specs::Naming::flags_of))]
-pub fn bad_flag(kind: Kind, fields: &[u8]) -> u8
+pub fn bad_flag(kind: Kind, fields: &[u8]) -> Option<u8>
     ensures { result ≡ bad_flag (flags_of kind) (numbers_of fields.now) }
 {
     match kind {
-        Kind::Depth => first_bad(fields, 2, 7),
-        Kind::WindAngle => 0,
-        Kind::WindSpeed => first_bad(fields, 2, 3),
-        Kind::Speed => 0,
-        Kind::Trip => 0,
-        Kind::Total => 0,
-        Kind::Logs => 0,
-        Kind::Speeds => first_bad(fields, 3, 6),
-        Kind::Water => 0,
-        Kind::Lamp => 0,
-        Kind::Latitude => first_bad(fields, 3, 4),
-        Kind::Longitude => first_bad(fields, 3, 4),
-        Kind::Ground => 0,
-        Kind::Course => 0,
-        Kind::Time => 0,
-        Kind::Date => 0,
-        Kind::Pilot => first_flag(first_bad(fields, 2, 3), first_bad(fields, 4, 9)),
-        Kind::Key => 0,
-        Kind::Heading => first_bad(fields, 3, 4),
-        Kind::Variation => 0,
-        Kind::Turn => first_bad(fields, 2, 3),
+        Kind::Depth => first_bad(&[2, 3, 4, 5, 6], fields),
+        Kind::WindSpeed => first_bad(&[2], fields),
+        Kind::Speeds => first_bad(&[3, 4, 5], fields),
+        Kind::Latitude => first_bad(&[3], fields),
+        Kind::Longitude => first_bad(&[3], fields),
+        Kind::Pilot => first_bad(&[2, 4, 5, 6, 7, 8], fields),
+        Kind::Heading => first_bad(&[3], fields),
+        Kind::Turn => first_bad(&[2], fields),
+        _ => None,
     }
 }
 

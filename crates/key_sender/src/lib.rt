@@ -4,7 +4,6 @@
 ghost use Rattle.std.specs.Prelude.{◌≡◌};
 ghost use Rattle.key_sender.specs.Key.{key_of};
 
-use datagram::Written;
 use message::Message;
 use sender::Offered;
 
@@ -18,8 +17,8 @@ pub fn send_key(source: u8, code: u8) -> Offered
         code: code as u32,
     };
     match writer::write(m, &mut symbols, 0) {
-        Written::Refused(r) => sender::refused_offer(r),
-        Written::Wrote(_) => {
+        Err(r) => sender::refused_offer(r),
+        Ok(_) => {
             let bytes = [
                 (symbols[0] % 256) as u8,
                 (symbols[1] % 256) as u8,

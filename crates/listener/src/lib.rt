@@ -8,7 +8,8 @@ ghost use Rattle.listener.specs.Step.{hear_of, command_symbol, other_symbol, qui
 use datagram::Refusal;
 use datagram::refusals::{NOT_SOUND, SYMBOL_ABOVE};
 
-// What is held of the datagram that is being heard: `held` bytes, and zeros past them.
+// What is held of the datagram that is being heard: `held` bytes, and zeros past them. An array with its count, as in `Heard`, since
+// no heap is used and definitions and theorems name the layout.
 #[derive(Clone, Copy)]
 pub struct Listener {
     pub bytes: [u8; 17],
@@ -46,24 +47,19 @@ pub fn empty_listener() -> Listener
 }
 
 // Whether the state is sound. The declared length is 3 to 18, so fewer held than declared are at most 17.
+#[tactic(auto, using(crate::proofs::Sound::sound_is))]
 pub fn is_sound(l: Listener) -> bool
     ensures { result ≡ sound l }
 {
-    let held = l.held;
-    if 3 + l.bytes[1] % 16 <= held {
-        return false;
-    }
-    datagram::zeros_from(&l.bytes, held as usize)
+    l.held < 3 + l.bytes[1] % 16 && datagram::zeros_from(&l.bytes, l.held as usize)
 }
 
 // Whether the state is empty: sound, with nothing held.
+#[tactic(auto, unfolding(crate::specs::State::empty))]
 pub fn is_empty(l: Listener) -> bool
     ensures { result ≡ empty l }
 {
-    if is_sound(l) {
-        return l.held == 0;
-    }
-    false
+    is_sound(l) && l.held == 0
 }
 
 // The next state and the answer to one symbol.
@@ -89,8 +85,8 @@ fn without_bytes(answer: Answer, listener: Listener) -> Heard
     ensures { result ≡ quiet answer listener }
 {
     Heard {
-        answer: answer,
-        listener: listener,
+        answer,
+        listener,
         bytes: [0; 18],
         count: 0,
     }
@@ -122,14 +118,12 @@ fn extended(l: Listener, byte: u8) -> Heard
     requires { (sound l ≡ true) × (0 < l.held) }
     ensures { result ≡ other_symbol (held_bytes l) byte }
 {
-    let held = l.held;
-    let at = held as usize;
-    if held + 1 == 3 + l.bytes[1] % 16 {
+    if l.held + 1 == 3 + l.bytes[1] % 16 {
         return handed_out(l, byte);
     }
     let mut next = l;
-    next.bytes[at] = byte;
-    next.held = held + 1;
+    next.bytes[l.held as usize] = byte;
+    next.held += 1;
     without_bytes(Answer::Kept, next)
 }
 
@@ -138,19 +132,14 @@ fn handed_out(l: Listener, byte: u8) -> Heard
     requires { l.held ≤ 17 }
     ensures { result ≡ handed (held_bytes l ++ (byte ∷ [])) }
 {
-    let held = l.held;
-    let at = held as usize;
-    let mut out = [0u8; 18];
-    let mut i = 0;
-    while i < at {
-        out[i] = l.bytes[i];
-        i += 1;
-    }
-    out[at] = byte;
+    let held = l.held as usize;
+    let mut bytes = [0; 18];
+    bytes[..held].copy_from_slice(&l.bytes[..held]);
+    bytes[held] = byte;
     Heard {
         answer: Answer::HandedOut,
         listener: empty_listener(),
-        bytes: out,
-        count: held + 1,
+        bytes,
+        count: l.held + 1,
     }
 }

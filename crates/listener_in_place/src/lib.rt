@@ -10,10 +10,8 @@ use listener::{Heard, Listener, hear};
 pub fn hear_in_place(l: &mut Listener, symbol: u16) -> Heard
     ensures { (result ≡ hear_of l.old symbol) × (l.new ≡ (hear_of l.old symbol).listener) }
 {
-    let before = *l;
-    let heard = hear(before, symbol);
-    let next = next_of(heard);
-    *l = next;
+    let heard = hear(*l, symbol);
+    *l = heard.listener;
     heard
 }
 
@@ -23,28 +21,8 @@ pub fn hear_by_value(l: Listener, symbol: u16) -> Heard
 {
     let mut place = l;
     let heard = hear_in_place(&mut place, symbol);
-    let left = place;
-    with_state(heard, left)
-}
-
-// The next state of an outcome.
-fn next_of(heard: Heard) -> Listener
-    ensures { result ≡ heard.listener }
-{
-    let next = heard.listener;
-    next
-}
-
-// The outcome with this state for its next.
-fn with_state(heard: Heard, l: Listener) -> Heard
-    ensures { result ≡ record { answer = heard.answer; listener = l; bytes = heard.bytes; count = heard.count } }
-{
-    let answer = heard.answer;
-    let bytes = heard.bytes;
     Heard {
-        answer: answer,
-        listener: l,
-        bytes: bytes,
-        count: heard.count,
+        listener: place,
+        ..heard
     }
 }

@@ -1,4 +1,5 @@
 -- Demand 3 from the laws of demand 2: the framing shows what is due, what is due is handed out, and that reads back.
+use Rattle.std.specs.Prelude.{Result, Ok}
 use Prim.Native.Nat.{ℕ, ◌+◌}
 use mathlib.Core.Path.{◌≡◌, refl, sym, ap, ◌∙◌}
 use mathlib.Core.Bool.{true, false≢true}
@@ -7,13 +8,13 @@ use native.Mathlib.Omega.{arith}
 use lib.ListN.{take}
 use Rattle.datagram.specs.Whole.{whole, symbols}
 use Rattle.datagram.proofs.Padding.{take_pad}
+use Rattle.datagram.specs.declared.Refusal.{Refusal}
 use Rattle.listener.specs.declared.Answer.{Answer}
 use Rattle.listener.specs.declared.Answer.TheVariants.{Opened, Cancelled, Stray, Kept, HandedOut, Refused}
 use Rattle.listener.specs.declared.Heard.{Heard}
 use Rattle.listener.specs.State.{empty_listener}
 use Rattle.listener.specs.Step.{hear_of}
 use Rattle.message.specs.declared.Message.{Message}
-use Rattle.message.specs.declared.Reading.TheVariants.{Read}
 use Rattle.message.specs.Reading.{read_of}
 use Rattle.message.specs.Spelling.{bytes_of}
 use Rattle.writer.specs.Writing.{write_of}
@@ -72,12 +73,12 @@ put_in_due mixed_end = refl
 put_in_due (as_it_is {c = c} m) = ap (with_due c.due) (put_in_due m)
 put_in_due (above h m) = put_in_due m
 
-same_messages : (ms ns : List Message) → map Read ms ≡ map Read ns → ms ≡ ns
+same_messages : (ms ns : List Message) → map {B = Result Message Refusal} Ok ms ≡ map Ok ns → ms ≡ ns
 same_messages [] [] e = refl
 same_messages [] (n ∷ ns) e = cc
 same_messages (m ∷ ms) [] e = cc
 same_messages (m ∷ ms) (n ∷ ns) e =
-    let later : map Read ms ≡ map Read ns = cc in
+    let later : map {B = Result Message Refusal} Ok ms ≡ map Ok ns = cc in
     let same = same_messages ms ns later in
     cc
 
@@ -94,7 +95,7 @@ messages_due (message_then {m = m} {strays = ss} {attempts = ts} {rest = rest} i
     let later = quietly ts ++ rest in
     rw (sounding_due m (bytes_of m) (quietly ss ++ later) (round_trip.whole_datagram m), quietly_due ss later, quietly_due ts rest, messages_due more)
 
-messages_read : {ms : List Message} {calls : List Call} → Messages ms calls → map read_of (map bytes_of ms) ≡ map Read ms
+messages_read : {ms : List Message} {calls : List Call} → Messages ms calls → map read_of (map bytes_of ms) ≡ map Ok ms
 messages_read no_message = refl
 messages_read (message_then {m = m} i b a more) = rw (round_trip.reads_back_lem m i, messages_read more)
 
@@ -102,7 +103,7 @@ sounded_shown : {ms : List Message} {calls : List Call} → Sounded ms calls →
 sounded_shown (sounded {strays = ss} {attempts = ts} {rest = rest} b a more) =
     strays_then (quietly ts ++ rest) b (attempts_then rest a (messages_shown more) [] (omega arith))
 
-sounded_read : {ms : List Message} {calls : List Call} → Sounded ms calls → map read_of (map bytes_of (dues calls)) ≡ map Read ms
+sounded_read : {ms : List Message} {calls : List Call} → Sounded ms calls → map read_of (map bytes_of (dues calls)) ≡ map Ok ms
 sounded_read (sounded {strays = ss} {attempts = ts} {rest = rest} b a more) =
     rw (quietly_due ss (quietly ts ++ rest), quietly_due ts rest, messages_due more) (messages_read more)
 
@@ -110,7 +111,7 @@ heard_shown : (ms : List Message) (calls : List Call) → HeardAs ms calls → A
 heard_shown ms calls heard = put_in heard.mixed empty_listener (sounded_shown heard.form)
 
 heard_read : (ms : List Message) (calls : List Call) → HeardAs ms calls
-    → map read_of (handed_out (run hear_of empty_listener (symbols_in calls))) ≡ map Read ms
+    → map read_of (handed_out (run hear_of empty_listener (symbols_in calls))) ≡ map Ok ms
 heard_read ms calls heard =
     rw (all_due calls (run hear_of empty_listener (symbols_in calls)) (heard_shown ms calls heard), put_in_due heard.mixed)
     (sounded_read heard.form)

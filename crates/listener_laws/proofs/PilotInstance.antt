@@ -1,4 +1,5 @@
 -- Demand 3 about the autopilot's datagram: north turning right in 84 and in 9C, and what the listener and the reader make of it, computed.
+use Rattle.std.specs.Prelude.{Ok}
 use mathlib.Core.Path.{◌≡◌, refl}
 use mathlib.Core.Bool.{true, false}
 use mathlib.Core.List.{List, [], ◌∷◌, map}
@@ -10,7 +11,6 @@ use Rattle.listener.specs.State.{sound, empty_listener}
 use Rattle.listener.specs.Step.{step, hear_of}
 use Rattle.message.specs.declared.Message.{Message}
 use Rattle.message.specs.declared.Message.TheVariants.{Pilot, Turn}
-use Rattle.message.specs.declared.Reading.TheVariants.{Read}
 use Rattle.message.specs.Table.{find_of, kinds}
 use Rattle.message.specs.Range.{range_of}
 use Rattle.message.specs.Reading.{read_kind, read_of}
@@ -70,10 +70,10 @@ recording =
     }
 
 -- by demand 3
-pub by_demand : map read_of (handed_out (run hear_of empty_listener (symbols_in calls))) ≡ map Read messages
+pub by_demand : map read_of (handed_out (run hear_of empty_listener (symbols_in calls))) ≡ map Ok messages
 by_demand = demand3.read_as messages calls recording
 
 -- and by the definitions alone, from the symbols
-pub computed : map read_of (handed_out (run hear_of empty_listener (symbols_in calls))) ≡ Read pilot ∷ Read turn ∷ []
+pub computed : map read_of (handed_out (run hear_of empty_listener (symbols_in calls))) ≡ Ok pilot ∷ Ok turn ∷ []
 unfolding sound step pad_to hear_of read_of find_of kinds read_kind range_of whole
 computed = refl

@@ -1,4 +1,5 @@
 -- Wrong versions that demand 3 rules out: five listeners by the recording of `Instance`, and a private code by what must be written.
+use Rattle.std.specs.Prelude.{Result, Ok}
 use mathlib.Core.Path.{◌≡◌, refl, sym, ap, ◌∙◌}
 use mathlib.Core.Bool.{cond}
 use mathlib.Core.List.{List, [], ◌∷◌}
@@ -16,9 +17,6 @@ use Rattle.listener.specs.State.{sound, empty_listener}
 use Rattle.listener.specs.Step.{hear_of, step, quiet, refused_by}
 use Rattle.message.specs.declared.Message.{Message}
 use Rattle.message.specs.declared.Message.TheVariants.{Speed}
-use Rattle.message.specs.declared.Reading.{Reading}
-use Rattle.message.specs.declared.Reading.TheVariants.{Read}
-use Rattle.message.specs.declared.Verdict.TheVariants.{InRange}
 use Rattle.message.specs.Range.{range_of}
 use Rattle.message.specs.Reading.{read_of}
 use Rattle.message.specs.Spelling.{bytes_of}
@@ -29,6 +27,7 @@ use Rattle.listener_laws.specs.Form.{symbols_in, Below, none, one_more}
 use Rattle.listener_laws.specs.Demand.{run, handed_out, Demand3}
 use Rattle.listener_laws.proofs.Framing.{all_below_lem}
 use Rattle.listener_laws.proofs.Instance.{messages, calls, recording}
+use Rattle.datagram.specs.declared.Refusal.{Refusal}
 
 -- what is handed out of the recording
 abbrev handed_by : (Listener → ℕ → Heard) → List (List ℕ)
@@ -103,7 +102,7 @@ abbrev inverted : List ℕ → List ℕ
 inverted bytes = set bytes 2 (255 - get_or bytes 2 0)
 
 -- reads a private code, in which the third byte is inverted
-abbrev private_read : List ℕ → Reading
+abbrev private_read : List ℕ → Result Message Refusal
 private_read bytes = read_of (inverted bytes)
 
 -- writes that code
@@ -119,7 +118,7 @@ twice (one_more h (one_more k (one_more {s = b} l more))) =
     rw same
 
 -- the two agree with each other
-pub private_reads_back : (m : Message) → range_of m ≡ InRange → private_read (inverted (bytes_of m)) ≡ Read m
+pub private_reads_back : (m : Message) → range_of m ≡ (Ok tt) → private_read (inverted (bytes_of m)) ≡ Ok m
 private_reads_back m i = rw (twice (all_below_lem (bytes_of m) (round_trip.all_bytes_lem m))) (round_trip.reads_back_lem m i)
 
 -- and with nobody else: the writer must give the symbols of the table

@@ -1,8 +1,7 @@
 -- The form of what is heard: strays, attempts, messages, and symbols above 511 anywhere (rules 13.3).
-use Rattle.std.specs.Prelude.{◌≡◌, List, [], ◌∷◌, ◌++◌, map, ℕ, ◌+◌, ◌<◌, length}
+use Rattle.std.specs.Prelude.{◌≡◌, List, [], ◌∷◌, ◌++◌, map, ℕ, ◌+◌, ◌<◌, length, Ok}
 use Rattle.datagram.specs.Whole.{declared}
 use Rattle.message.specs.declared.Message.{Message}
-use Rattle.message.specs.declared.Verdict.TheVariants.{InRange}
 use Rattle.message.specs.Range.{range_of}
 use Rattle.message.specs.Spelling.{symbols_of}
 
@@ -49,7 +48,7 @@ sounding m (s ∷ t ∷ ss) = call s nothing ∷ sounding m (t ∷ ss)
 -- for each message in turn: its symbols as the writer gives them, then strays, then attempts
 pub data Messages : List Message → List Call → Type 0 where
   no_message : Messages [] []
-  message_then : {m : Message} {ms : List Message} {strays attempts : List ℕ} {rest : List Call} → range_of m ≡ InRange
+  message_then : {m : Message} {ms : List Message} {strays attempts : List ℕ} {rest : List Call} → range_of m ≡ Ok tt
       → Below strays → Attempts attempts → Messages ms rest
       → Messages (m ∷ ms) (sounding m (symbols_of m) ++ (quietly strays ++ (quietly attempts ++ rest)))
 

@@ -1,10 +1,9 @@
 -- What holds of a listener over any list of symbols, and of where demand 3 starts.
-use Rattle.std.specs.Prelude.{◌≡◌, true, List, [], ◌∷◌, map, ℕ, length}
+use Rattle.std.specs.Prelude.{◌≡◌, true, List, [], ◌∷◌, map, ℕ, length, Ok}
 use Rattle.listener.specs.declared.Listener.{Listener}
 use Rattle.listener.specs.State.{sound, empty, empty_listener}
 use Rattle.listener.specs.Step.{hear_of}
 use Rattle.message.specs.declared.Message.{Message}
-use Rattle.message.specs.declared.Reading.TheVariants.{Read}
 use Rattle.message.specs.Reading.{read_of}
 use Rattle.listener_laws.specs.Form.{Call, HeardAs, symbols_in}
 use Rattle.listener_laws.specs.Demand.{run, AllShow, handed_out}
@@ -29,4 +28,4 @@ pub record ListenerLaws : Type 0 where
   pub shown_from : (l : Listener) → Empty l → (ms : List Message) (calls : List Call) → HeardAs ms calls
       → AllShow calls (run hear_of l (symbols_in calls))
   pub read_from_lem : (l : Listener) → Empty l → (ms : List Message) (calls : List Call) → HeardAs ms calls
-      → map read_of (handed_out (run hear_of l (symbols_in calls))) ≡ map Read ms
+      → map read_of (handed_out (run hear_of l (symbols_in calls))) ≡ map Ok ms

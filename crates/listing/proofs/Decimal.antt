@@ -2,7 +2,8 @@
 use mathlib.Core.Path.{◌≡◌, refl, ap, ◌∙◌}
 use mathlib.Core.List.{List, [], ◌∷◌, ◌++◌, append_assoc}
 use mathlib.Core.Bool.{Bool, true, false, cond}
-use Prim.Native.Nat.{ℕ, zero, suc, ◌+◌, ◌*◌, ◌-◌, ◌/◌, ◌%◌, ◌≤◌, ◌<◌}
+use Prim.Native.Nat.{ℕ, zero, suc, ◌+◌, ◌*◌, ◌-◌, ◌/◌, ◌%◌, ◌^◌, ◌≤◌, ◌<◌}
+use native.Mathlib.Nat.{pow-succ'}
 use native.Mathlib.Omega.{arith}
 use borrow.Author.Tests.{lt-ltb, le-ltb}
 use lib.Dec.{ltb}
@@ -52,9 +53,21 @@ length_by (suc k) (suc fuel) n later f l h =
     let t : 10 ≤ n = omega (arith, to_most k) in
     rw (le-ltb n 10 t) (length_by k fuel (n / 10) ((48 + n % 10) ∷ later) (omega arith) (from_next k n l) (omega arith) ∙ omega arith)
 
-pub decimal_length : (k n : ℕ) → k < 20 → from k ≤ n → n < to k → suc k ≡ length (decimal n)
+decimal_length : (k n : ℕ) → k < 20 → from k ≤ n → n < to k → suc k ≡ length (decimal n)
 unfolding decimal
 decimal_length k n f l h = omega (arith, length_by k 20 n [] f l h)
+
+to_power : (k : ℕ) → to k ≡ 10 * 10 ^ k
+to_power zero = refl
+to_power (suc k) = omega (arith, to_power k, pow-succ' 10 k)
+
+from_power : (k n : ℕ) → 10 ^ k ≤ n → from k ≤ n
+from_power zero n h = omega arith
+from_power (suc k) n h = omega (arith, to_power k, pow-succ' 10 k)
+
+-- as many digits as the logarithm says
+pub log_length : (k n : ℕ) → k < 20 → 10 ^ k ≤ n → n < 10 * 10 ^ k → k + 1 ≡ length (decimal n)
+log_length k n f l h = omega (arith, decimal_length k n f (from_power k n l) (omega (arith, to_power k)))
 
 -- a number below `to k` has at most k digits more than one
 length_most : (k fuel n : ℕ) (later : List ℕ) → n < to k → length (decimal_by fuel n later) ≤ suc k + length later

@@ -1,4 +1,5 @@
 -- The parts of a line: how long each may be, and what a whole datagram reads as.
+use Rattle.std.specs.Prelude.{Result, Option, Ok, Err, Some, None}
 use Prim.Native.Nat.{◌≤◌}
 use native.Mathlib.Omega.{arith}
 use lib.ListN.{length, length-append}
@@ -6,17 +7,14 @@ use Rattle.message.specs.declared.Kind.{Kind}
 use Rattle.message.specs.declared.Kind.TheVariants as kind
 use Rattle.message.specs.declared.Message.{Message}
 use Rattle.message.specs.declared.Message.TheVariants.{Depth, WindAngle, WindSpeed, Speed, Trip, Total, Logs, Speeds, Water, Lamp, Latitude, Longitude, Ground, Course, Time, Date, Pilot, Key, Heading, Variation, Turn}
-use Rattle.message.specs.declared.Reading.{Reading}
-use Rattle.message.specs.declared.Reading.TheVariants.{Read, Refused}
 use Rattle.message.specs.Fields.{kind_of, fields_of}
 use Rattle.listing.specs.Names.{name_of}
 use Rattle.listing.specs.Line.{content_of}
 use Rattle.listing.specs.Walk.{stop_text, end_text}
 use Rattle.progress.specs.declared.Progress.{Progress}
-use Rattle.progress.specs.declared.Stop.{Stop}
-use Rattle.progress.specs.declared.Stop.TheVariants.{Running, Stopped}
 use Rattle.listing.proofs.Decimal.{decimal_most}
 use Rattle.listing.proofs.Spaced.{label_length}
+use Rattle.datagram.specs.declared.Refusal.{Refusal}
 
 name_most : (k : Kind) → length (name_of k) ≤ 9
 name_most kind.Depth = omega arith
@@ -65,16 +63,16 @@ fields_most (Heading halves reference locked) = omega arith
 fields_most (Variation east) = omega arith
 fields_most (Turn degrees right rudder) = omega arith
 
-pub content_most : (reading : Reading) → length (content_of reading) ≤ 252
-content_most (Read m) =
+pub content_most : (reading : Result Message Refusal) → length (content_of reading) ≤ 252
+content_most (Ok m) =
     omega (arith, label_length (name_of (kind_of m)) (fields_of m), name_most (kind_of m), fields_most m)
-content_most (Refused r) = omega (arith, decimal_most r.number)
+content_most (Err r) = omega (arith, decimal_most r.number)
 
-pub stop_most : (stop : Stop) → length (stop_text stop) ≤ 53
-stop_most Running = omega arith
-stop_most (Stopped r) = simp length-append (omega (arith, decimal_most r.number, decimal_most r.place))
+pub stop_most : (stop : Option Refusal) → length (stop_text stop) ≤ 53
+stop_most None = omega arith
+stop_most (Some r) = simp length-append (omega (arith, decimal_most r.number, decimal_most r.place))
 
-pub end_most : (p : Progress) (stop : Stop) → length (end_text p stop) ≤ 139
+pub end_most : (p : Progress) (stop : Option Refusal) → length (end_text p stop) ≤ 139
 end_most p stop =
     simp length-append
     (omega (arith, stop_most stop, decimal_most p.handed, decimal_most p.cancelled, decimal_most p.stray))

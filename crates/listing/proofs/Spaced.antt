@@ -2,7 +2,6 @@
 use mathlib.Core.Path.{◌≡◌, refl}
 use mathlib.Core.List.{List, [], ◌∷◌, ◌++◌, append_assoc}
 use Prim.Native.Nat.{ℕ, suc, ◌+◌, ◌*◌, ◌≤◌, ◌<◌}
-use native.Mathlib.Nat.{min-le_left}
 use native.Mathlib.Numerals.{add-one}
 use native.Mathlib.Omega.{arith}
 use lib.IntN.{ℤ, pos, negsuc}
@@ -11,9 +10,6 @@ use lib.Seq.{take-suc}
 use Rattle.listing.specs.Text.{Put, signed_decimal, hex_byte, spaced_hex, spaced_numbers}
 use Rattle.listing.proofs.Decimal.{decimal_most}
 use Rattle.listing.proofs.Put.{put_then}
-
-pub take_most : {A : Type 0} (i : ℕ) (xs : List A) → length (take i xs) ≤ i
-take_most i xs = rw length-take (min-le_left i (length xs))
 
 hex_append : (xs ys : List ℕ) → spaced_hex (xs ++ ys) ≡ spaced_hex xs ++ spaced_hex ys
 hex_append [] ys = refl
@@ -27,23 +23,22 @@ hex_length [] = refl
 hex_length (x ∷ xs) = omega (arith, hex_length xs)
 
 pub hex_most : (i : ℕ) (xs : List ℕ) → length (spaced_hex (take i xs)) ≤ 3 * i
-hex_most i xs = omega (arith, hex_length (take i xs), take_most i xs)
+hex_most i xs = omega (arith, hex_length (take i xs), length-take i xs)
 
 numbers_append : (xs ys : List ℤ) → spaced_numbers (xs ++ ys) ≡ spaced_numbers xs ++ spaced_numbers ys
 numbers_append [] ys = refl
 numbers_append (x ∷ xs) ys = rw (numbers_append xs ys, append_assoc (signed_decimal x))
 
--- more numbers behind a label and numbers
-pub label_then : (label : List ℕ) (xs ys : List ℤ) {a b c : List ℕ} {at m n : ℕ} → Put a at (label ++ spaced_numbers xs) b m
-    → Put b m (spaced_numbers ys) c n → Put a at (label ++ spaced_numbers (xs ++ ys)) c n
-label_then label xs ys p q =
-    rw (numbers_append xs ys, ← append_assoc label (spaced_numbers xs) (spaced_numbers ys)) (put_then p q)
+-- more numbers behind numbers
+pub numbers_then : (xs ys : List ℤ) {a b c : List ℕ} {at m n : ℕ} → Put a at (spaced_numbers xs) b m → Put b m (spaced_numbers ys) c n
+    → Put a at (spaced_numbers (xs ++ ys)) c n
+numbers_then xs ys p q = rw (numbers_append xs ys) (put_then p q)
 
 signed_most : (z : ℤ) → length (signed_decimal z) ≤ 21
 signed_most (pos n) = omega (arith, decimal_most n)
 signed_most (negsuc n) = omega (arith, decimal_most (suc n))
 
-numbers_length : (zs : List ℤ) → length (spaced_numbers zs) ≤ 22 * length zs
+pub numbers_length : (zs : List ℤ) → length (spaced_numbers zs) ≤ 22 * length zs
 numbers_length [] = omega arith
 numbers_length (z ∷ zs) = simp length-append (omega (arith, signed_most z, numbers_length zs))
 

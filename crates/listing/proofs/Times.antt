@@ -2,13 +2,14 @@
 use mathlib.Core.Path.{◌≡◌, refl, sym, ap, ◌∙◌}
 use mathlib.Core.Bool.{Bool, true, false}
 use mathlib.Core.List.{List, [], ◌∷◌, ◌++◌}
-use Prim.Native.Nat.{ℕ, zero, suc, ◌+◌, ◌/◌, ◌%◌, ◌≤◌, ◌<◌}
+use Prim.Native.Nat.{ℕ, ◌+◌, ◌/◌, ◌%◌, ◌≤◌, ◌<◌}
 use native.Mathlib.Nat.{zero-add}
 use native.Mathlib.Omega.{arith}
 use borrow.Author.Tests.{ltb-true, ltb-false}
 use lib.Dec.{ltb}
 use lib.ListN.{length, get_or, take, drop, length-append}
 use lib.Seq.{sets, sets-eq, take-append_seam, length-take-le}
+use Rattle.std.proofs.lemmas.List.{take-take}
 use Rattle.listing.specs.Text.{Put, Kept, decimal, pair_of}
 use Rattle.listing.proofs.Decimal.{decimal_most, decimal_below, decimal_ten_thousands}
 use Rattle.listing.proofs.Put.{put_length, overlaid}
@@ -23,12 +24,6 @@ six (a ∷ b ∷ c ∷ []) h = absurd (omega arith)
 six (a ∷ b ∷ c ∷ d ∷ []) h = absurd (omega arith)
 six (a ∷ b ∷ c ∷ d ∷ e ∷ []) h = absurd (omega arith)
 six (a ∷ b ∷ c ∷ d ∷ e ∷ f ∷ l) h = refl
-
-take_take : (k j : ℕ) (l : List ℕ) → k ≤ j → take k (take j l) ≡ take k l
-take_take zero j l h = refl
-take_take (suc k) zero l h = absurd (omega arith)
-take_take (suc k) (suc j) [] h = refl
-take_take (suc k) (suc j) (x ∷ l) h = ap (λ (r : List ℕ). x ∷ r) (take_take k j l (omega arith))
 
 -- a number put at the front of the bytes is kept in them
 pub kept_anew : {bytes after : List ℕ} {n count : ℕ} → length bytes ≡ 20 → Put bytes 0 (decimal n) after count → Kept after n count
@@ -59,7 +54,7 @@ module _ {digits : List ℕ} {n count : ℕ} (k : Kept digits (n / 10000) count)
   time_put {out} {stored} {after} {at} {next} e put =
       let four = pair_of (n % 10000 / 100) ++ pair_of (n % 10000 % 100) in
       let long : length (take 6 digits) ≡ 6 = length-take-le 6 digits (omega (arith, k.long)) in
-      let kept : take count (take 6 digits) ≡ decimal (n / 10000) = take_take count 6 digits at_most_six ∙ k.shown in
+      let kept : take count (take 6 digits) ≡ decimal (n / 10000) = take-take count 6 digits at_most_six ∙ k.shown in
       let all : decimal n ≡ take count (take 6 digits) ++ four =
       decimal_ten_thousands n (omega (arith, ten_least (n / 10000) (omega (arith, k.many)))) (omega arith) ∙ ap (λ (d : List ℕ). d ++ four) (sym kept) in
       record {

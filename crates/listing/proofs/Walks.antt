@@ -1,4 +1,5 @@
 -- What holds while a block is being listed.
+use Rattle.std.specs.Prelude.{Option}
 use mathlib.Core.Path.{◌≡◌, ap, ◌∙◌}
 use mathlib.Core.List.{List, [], ◌++◌, append_assoc, append-nil}
 use Prim.Native.Nat.{ℕ, ◌+◌, ◌-◌, ◌*◌, ◌/◌, ◌≤◌}
@@ -7,12 +8,12 @@ use native.Mathlib.Omega.{arith}
 use lib.ListN.{length}
 use Rattle.listing.specs.declared.Listed.{Listed}
 use Rattle.progress.specs.declared.Progress.{Progress}
-use Rattle.progress.specs.declared.Stop.{Stop}
 use Rattle.framing.specs.Walk.{walk, behind, walk_from, records_from}
 use Rattle.listing.specs.Line.{line_of}
 use Rattle.listing.specs.Text.{Put}
 use Rattle.listing.specs.Walk.{Block}
 use Rattle.listing.proofs.Put.{put_then, put_nothing}
+use Rattle.datagram.specs.declared.Refusal.{Refusal}
 
 -- so far: this text was put, and the walk goes on behind it with the records left
 pub record Going (s before : List ℕ) (begin : Progress) (n : ℕ) (out : List ℕ) (p : Progress) (left at written : ℕ) : Type 0 where
@@ -28,7 +29,7 @@ started s before begin =
     record { text = []; put = put_nothing before 0; rest = rw sub-zero; within = omega arith; all = omega arith; fits = omega arith }
 
 module _ {s before out : List ℕ} {begin p : Progress} {n left at written : ℕ} (g : Going s before begin n out p left at written) where
-  pub ended : (stop : Stop) (r : Listed) → walk_from line_of left s at p (length before - written) ≡ walk [] p at stop
+  pub ended : (stop : Option Refusal) (r : Listed) → walk_from line_of left s at p (length before - written) ≡ walk [] p at stop
       → r ≡ record { progress = p; used = at; written = written; stop = stop } → Block (walk_from line_of n s 0 begin (length before)) before out r
   ended stop r e q =
       let w : walk_from line_of n s 0 begin (length before) ≡ walk g.text p at stop =

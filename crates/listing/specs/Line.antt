@@ -1,8 +1,6 @@
 -- The lines of a listing (rules 10.1 to 10.3).
-use Rattle.std.specs.Prelude.{ℕ, List, ◌++◌}
+use Rattle.std.specs.Prelude.{ℕ, List, ◌++◌, Result, Ok, Err}
 use Rattle.datagram.specs.declared.Refusal.{Refusal}
-use Rattle.message.specs.declared.Reading.{Reading}
-use Rattle.message.specs.declared.Reading.TheVariants.{Read, Refused}
 use Rattle.message.specs.declared.Message.{Message}
 use Rattle.message.specs.Fields.{kind_of, fields_of}
 use Rattle.message.specs.Reading.{read_of}
@@ -17,9 +15,9 @@ abbrev pub refused_text : Refusal → List ℕ
 refused_text r = ascii " refused " ++ decimal r.number
 
 -- what a datagram was read as, or what refused it
-abbrev pub content_of : Reading → List ℕ
-content_of (Read m) = message_text m
-content_of (Refused r) = refused_text r
+abbrev pub content_of : Result Message Refusal → List ℕ
+content_of (Ok m) = message_text m
+content_of (Err r) = refused_text r
 
 -- the decimal time, the bytes in hex, the content, and the line's end
 abbrev pub line_of : ℕ → List ℕ → List ℕ

@@ -1,5 +1,6 @@
 -- Where a recording is cut in two, its walk is what a pass over the first part gives, and then the walk of what is left of that
 -- part with the second part, with offsets counted from there.
+use Rattle.std.specs.Prelude.{Result, Option, Ok, Err, Some, None}
 use Prim.Native.Nat.{ℕ, zero, suc, ◌+◌, ◌-◌, ◌*◌, ◌≤◌}
 use native.Mathlib.Nat.{add_assoc, add-zero, suc-add}
 use native.Mathlib.Omega.{arith}
@@ -13,12 +14,9 @@ use Rattle.datagram.specs.declared.Refusal.{Refusal}
 use Rattle.listener.specs.declared.Heard.{Heard}
 use Rattle.listener.specs.Step.{hear_of}
 use Rattle.recording.specs.declared.Record.{Record}
-use Rattle.recording.specs.declared.Record.TheVariants as record-case
 use Rattle.recording.specs.Record.{record_of}
 use Rattle.recording.proofs.Records.{with_more, record_from, without}
 use Rattle.progress.specs.declared.Progress.{Progress}
-use Rattle.progress.specs.declared.Stop.{Stop}
-use Rattle.progress.specs.declared.Stop.TheVariants.{Running, Stopped}
 use Rattle.progress.specs.Progress.{advanced}
 use Rattle.framing.specs.Walk.{Walk, walk, walk_record, behind, entry_of, line_room, walk_from, walk_all, records_in}
 use Rattle.framing.proofs.Reach.{reached}
@@ -26,15 +24,15 @@ use Rattle.listing.specs.Line.{line_of}
 use Rattle.listing_laws.proofs.Stretch.{here, Broken, one_more, taken, goes_on, has_stopped}
 
 -- a walk whose offsets are counted from so many bytes earlier
-abbrev pub stop_from : ℕ → Stop → Stop
-stop_from base Running = Running
-stop_from base (Stopped r) = Stopped (record { number = r.number; place = base + r.place })
+abbrev pub stop_from : ℕ → Option Refusal → Option Refusal
+stop_from base None = None
+stop_from base (Some r) = Some (record { number = r.number; place = base + r.place })
 
 abbrev pub from_earlier : ℕ → Walk → Walk
 from_earlier base w = walk w.text w.progress (base + w.reached) (stop_from base w.stop)
 
 with_room : {s : List ℕ} {n at : ℕ} {p : Progress} {w : Walk} (b : Bool) → Broken s n at p w
-    → Broken s n at p (cond b w (walk [] p at Running))
+    → Broken s n at p (cond b w (walk [] p at None))
 with_room true t = t
 with_room false t = (_, here)
 
@@ -60,13 +58,13 @@ first_part (suc m) xs ys at p room l =
     = λ time h. first_part m xs ys (at + 8) (advanced p h) (room - length (entry_of line_of time h)) (omega arith) in
     rw (with_more xs ys at (omega arith)) (simp same)
 
-record_shifted : (base at : ℕ) (p : Progress) (rest later : ℕ → Heard → Walk) (r : Record)
+record_shifted : (base at : ℕ) (p : Progress) (rest later : ℕ → Heard → Walk) (r : Result (Option Record) Refusal)
     → ((time : ℕ) (h : Heard) → rest time h ≡ from_earlier base (later time h))
     → walk_record (record_from base r) p (base + at) (λ time h. behind (entry_of line_of time h) (rest time h))
     ≡ from_earlier base (walk_record r p at (λ time h. behind (entry_of line_of time h) (later time h)))
-record_shifted base at p rest later (record-case.Heard time symbol) e = rw (e time (hear_of p.listener symbol))
-record_shifted base at p rest later record-case.End e = refl
-record_shifted base at p rest later (record-case.Refused r) e = refl
+record_shifted base at p rest later (Ok (Some r)) e = rw (e r.time (hear_of p.listener r.symbol))
+record_shifted base at p rest later (Ok None) e = refl
+record_shifted base at p rest later (Err r) e = refl
 
 shifted : (k base : ℕ) (s : List ℕ) (at : ℕ) (p : Progress) → base ≤ length s
     → walk_all line_of k s (base + at) p ≡ from_earlier base (walk_all line_of k (drop base s) at p)
@@ -93,7 +91,7 @@ first_of_all xs ys p room =
     let e : records_in (xs ++ ys) ≡ records_in xs + more = rw length-append (omega arith) in
     rw (e, ← first_part (records_in xs) xs ys 0 p room (omega arith)) (first (records_in xs) more (xs ++ ys) 0 p room)
 
-pub then_the_rest : (xs ys : List ℕ) (p : Progress) (room : ℕ) → (first_of xs p room).stop ≡ Running
+pub then_the_rest : (xs ys : List ℕ) (p : Progress) (room : ℕ) → (first_of xs p room).stop ≡ None
     → walk_all line_of (records_in (xs ++ ys)) (xs ++ ys) 0 p
     ≡ behind (first_of xs p room).text
     (from_earlier (first_of xs p room).reached
@@ -108,6 +106,6 @@ then_the_rest xs ys p room h =
     (ap (behind (first_of xs p room).text)
     (from_there (records_in (drop at (xs ++ ys))) at (xs ++ ys) (first_of xs p room).progress (rw length-append (omega arith))))
 
-pub already_stopped : (xs ys : List ℕ) (p : Progress) (room : ℕ) (r : Refusal) → (first_of xs p room).stop ≡ Stopped r
+pub already_stopped : (xs ys : List ℕ) (p : Progress) (room : ℕ) (r : Refusal) → (first_of xs p room).stop ≡ Some r
     → walk_all line_of (records_in (xs ++ ys)) (xs ++ ys) 0 p ≡ first_of xs p room
 already_stopped xs ys p room r h = has_stopped r (first_of_all xs ys p room).1 h

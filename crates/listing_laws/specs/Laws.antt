@@ -1,27 +1,25 @@
 -- What holds of the listing of a recording, in whatever pieces it is read (rules 13.7).
-use Rattle.std.specs.Prelude.{◌≡◌, Bool, cond, List, [], ◌∷◌, ◌++◌, ℕ, zero, suc, ◌+◌, ◌≤◌, ◌<◌, ◌%◌, ◌^◌, length}
+use Rattle.std.specs.Prelude.{◌≡◌, Bool, cond, List, [], ◌∷◌, ◌++◌, ℕ, zero, suc, ◌+◌, ◌≤◌, ◌<◌, ◌%◌, ◌^◌, length, Result, Option, Ok, Err, Some, None}
 use Rattle.listener.specs.declared.Answer.{Answer}
 use Rattle.listener.specs.declared.Heard.{Heard}
 use Rattle.listener.specs.declared.Listener.{Listener}
 use Rattle.listener.specs.Answers.{is_handed, is_cancelled, is_stray}
 use Rattle.listener.specs.Step.{hear_of}
 use Rattle.recording.specs.declared.Record.{Record}
-use Rattle.recording.specs.declared.Record.TheVariants as record-case
 use Rattle.recording.specs.Record.{record_of}
 use Rattle.progress.specs.declared.Progress.{Progress}
-use Rattle.progress.specs.declared.Stop.{Stop}
-use Rattle.progress.specs.declared.Stop.TheVariants.{Running, Stopped}
 use Rattle.progress.specs.Progress.{begun, cut_off, placed_from}
 use Rattle.framing.specs.Walk.{line_room, walk_all}
 use Rattle.listing.specs.Line.{line_of, header_line}
 use Rattle.listing.specs.Walk.{end_text, listing_of}
 use Rattle.stream.specs.Pass.{Passed, pass_of}
+use Rattle.datagram.specs.declared.Refusal.{Refusal}
 
 -- the answers that a listener gives to so many records from an offset on, each in the state that the one before it left
-abbrev pub answers_to : Record → Listener → (Heard → List Answer) → List Answer
-answers_to (record-case.Heard time symbol) l later = (hear_of l symbol).answer ∷ later (hear_of l symbol)
-answers_to record-case.End l later = []
-answers_to (record-case.Refused r) l later = []
+abbrev pub answers_to : Result (Option Record) Refusal → Listener → (Heard → List Answer) → List Answer
+answers_to (Ok (Some r)) l later = (hear_of l r.symbol).answer ∷ later (hear_of l r.symbol)
+answers_to (Ok None) l later = []
+answers_to (Err r) l later = []
 
 unfoldable pub answers_in : ℕ → List ℕ → ℕ → Listener → List Answer
 answers_in zero s at l = []
@@ -38,9 +36,9 @@ pub data Event : Type 0 where
   lists : ℕ → Event
 
 -- the text of what happens, up to the last lines: at a refused record, or at the end of the recording with these bytes held
-abbrev pub onward : Stop → Progress → List ℕ → List ℕ
-onward Running p later = later
-onward (Stopped r) p later = end_text p (Stopped r)
+abbrev pub onward : Option Refusal → Progress → List ℕ → List ℕ
+onward None p later = later
+onward (Some r) p later = end_text p (Some r)
 
 abbrev pub text_of : List Event → Progress → ℕ → List ℕ → List ℕ
 text_of [] p base held = end_text p (placed_from base (cut_off (record_of held 0)))
@@ -50,9 +48,9 @@ text_of (lists room ∷ events) p base held =
     k.text ++ onward k.stop k.progress (text_of events k.progress k.base k.rest)
 
 -- the bytes that are held at the end; none where a record was refused
-abbrev pub unless_stopped : Stop → List ℕ → List ℕ
-unless_stopped Running held = held
-unless_stopped (Stopped r) held = []
+abbrev pub unless_stopped : Option Refusal → List ℕ → List ℕ
+unless_stopped None held = held
+unless_stopped (Some r) held = []
 
 abbrev pub held_after : List Event → Progress → ℕ → List ℕ → List ℕ
 held_after [] p base held = held
@@ -78,7 +76,7 @@ pub record ListingLaws : Type 0 where
       → header_line ++ text_of events begun 0 [] ≡ listing_of (recording_of events)
   -- a pass over a whole record, with room for a line, takes one or more, or stops: who lists while one is held comes to an end
   pub pass_moves : (p : Progress) (base : ℕ) (s : List ℕ) (room : ℕ) → line_room ≤ room → 8 ≤ length s
-      → (pass_of p base s room).stop ≡ Running → length (pass_of p base s room).rest < length s
+      → (pass_of p base s room).stop ≡ None → length (pass_of p base s room).rest < length s
   -- the counts are the numbers of such answers, on 64 bits
   pub handed_counted : (n : ℕ) (s : List ℕ) (at : ℕ) (p : Progress)
       → (walk_all line_of n s at p).progress.handed % 2 ^ 64 ≡ (p.handed + how_many is_handed (answers_in n s at p.listener)) % 2 ^ 64

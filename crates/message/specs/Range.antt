@@ -1,30 +1,29 @@
 -- The range of each field (rules 4.2), and what a message gets for its first field out of range.
-use Rattle.std.specs.Prelude.{ℕ, ◌&&◌, cond, leb, ℤ, pos, neg_ℤ}
+use Rattle.std.specs.Prelude.{ℕ, ◌&&◌, cond, leb, ℤ, pos, neg_ℤ, Result, Ok, Err, ⊤}
 use Rattle.std.specs.Int.Signed.{le_z}
 use Rattle.datagram.specs.Refusals.{out_of_range}
-use Rattle.message.specs.declared.Verdict.{Verdict}
-use Rattle.message.specs.declared.Verdict.TheVariants.{InRange, Refused}
 use Rattle.message.specs.declared.Message.{Message}
 use Rattle.message.specs.declared.Message.TheVariants.{Depth, WindAngle, WindSpeed, Speed, Trip, Total, Logs, Speeds, Water, Lamp, Latitude, Longitude, Ground, Course, Time, Date, Pilot, Key, Heading, Variation, Turn}
+use Rattle.datagram.specs.declared.Refusal.{Refusal}
 
 -- field k, counted from 1, is at most the limit
-abbrev pub at_most : ℕ → ℕ → ℕ → Verdict
-at_most k limit n = cond (leb n limit) InRange (Refused (out_of_range k))
+abbrev pub at_most : ℕ → ℕ → ℕ → Result ⊤ Refusal
+at_most k limit n = cond (leb n limit) (Ok tt) (Err (out_of_range k))
 
 -- field k is from 1 to the limit
-abbrev pub from_one : ℕ → ℕ → ℕ → Verdict
-from_one k limit n = cond (leb 1 n && leb n limit) InRange (Refused (out_of_range k))
+abbrev pub from_one : ℕ → ℕ → ℕ → Result ⊤ Refusal
+from_one k limit n = cond (leb 1 n && leb n limit) (Ok tt) (Err (out_of_range k))
 
 -- field k is signed, from low to high
-abbrev pub within : ℕ → ℤ → ℤ → ℤ → Verdict
-within k low high z = cond (le_z low z && le_z z high) InRange (Refused (out_of_range k))
+abbrev pub within : ℕ → ℤ → ℤ → ℤ → Result ⊤ Refusal
+within k low high z = cond (le_z low z && le_z z high) (Ok tt) (Err (out_of_range k))
 
 -- the earlier refusal decides
-abbrev pub and_then : Verdict → Verdict → Verdict
-and_then InRange later = later
-and_then (Refused r) later = Refused r
+abbrev pub and_then : Result ⊤ Refusal → Result ⊤ Refusal → Result ⊤ Refusal
+and_then (Ok tt) later = later
+and_then (Err r) later = Err r
 
-unfoldable pub range_of : Message → Verdict
+unfoldable pub range_of : Message → Result ⊤ Refusal
 range_of (Depth tenths anchor metric defective deep shallow) = at_most 1 65535 tenths
 range_of (WindAngle halves) = at_most 1 719 halves
 range_of (WindSpeed tenths metres) = at_most 1 1279 tenths

@@ -1,10 +1,8 @@
 -- The one table of kinds: command, length and kind, as rules 4.2 lists them.
-use Rattle.std.specs.Prelude.{ℕ, cond, List, [], ◌∷◌, eqb, drop}
+use Rattle.std.specs.Prelude.{ℕ, cond, List, [], ◌∷◌, eqb, Option, Some, None}
 use Rattle.message.specs.declared.Kind.{Kind}
 use Rattle.message.specs.declared.Kind.TheVariants.{Depth, WindAngle, WindSpeed, Speed, Trip, Total, Logs, Speeds, Water, Lamp, Latitude, Longitude, Ground, Course, Time, Date, Pilot, Key, Heading, Variation, Turn}
 use Rattle.message.specs.declared.Row.{Row}
-use Rattle.message.specs.declared.Lookup.{Lookup}
-use Rattle.message.specs.declared.Lookup.TheVariants.{Found, Unknown}
 
 abbrev row : ℕ → ℕ → Kind → Row
 row command size kind = record { command = command; length = size; kind = kind }
@@ -58,17 +56,9 @@ kinds =
     row_of Turn ∷ []
 
 -- the first row with this command
-abbrev pub row_in : List Row → ℕ → Lookup
-row_in [] command = Unknown
-row_in (r ∷ rs) command = cond (eqb r.command command) (Found r) (row_in rs command)
+abbrev pub row_in : List Row → ℕ → Option Row
+row_in [] command = None
+row_in (r ∷ rs) command = cond (eqb r.command command) (Some r) (row_in rs command)
 
-unfoldable pub find_of : ℕ → Lookup
+unfoldable pub find_of : ℕ → Option Row
 find_of command = row_in kinds command
-
-abbrev pub first : List Row → Lookup
-first [] = Unknown
-first (r ∷ rs) = Found r
-
--- the row of a number, counted from 0
-unfoldable pub row_at : ℕ → Lookup
-row_at index = first (drop index kinds)

@@ -4,10 +4,8 @@
 pub mod range;
 
 ghost use Rattle.std.specs.Prelude.{◌≡◌};
-ghost use Rattle.message.specs.Table.{row_of, kinds, find_of, row_at};
+ghost use Rattle.message.specs.Table.{row_of, find_of};
 ghost use Rattle.message.specs.Fields.{kind_of, command_of};
-
-use datagram::Refusal;
 
 // A kind of message, by its row in the table of rules 4.2.
 #[derive(Clone, Copy)]
@@ -137,33 +135,12 @@ pub enum Message {
     },
 }
 
-// What reading a datagram gives.
-#[derive(Clone, Copy)]
-pub enum Reading {
-    Read(Message),
-    Refused(Refusal),
-}
-
-// Whether a message's fields are in range, or the refusal of the first that is not.
-#[derive(Clone, Copy)]
-pub enum Verdict {
-    InRange,
-    Refused(Refusal),
-}
-
 // A row of the table: the command, the whole length and the kind.
 #[derive(Clone, Copy)]
 pub struct Row {
     pub command: u8,
     pub length: u8,
     pub kind: Kind,
-}
-
-// What looking a command up gives.
-#[derive(Clone, Copy)]
-pub enum Lookup {
-    Found(Row),
-    Unknown,
 }
 
 // The rows of the table, one a kind.
@@ -293,73 +270,35 @@ const TURN: Row = Row {
     kind: Kind::Turn,
 };
 
-// The one table of kinds, in the order of their commands.
-pub const KINDS: [Row; 21] = [
-    DEPTH, WIND_ANGLE, WIND_SPEED, SPEED, TRIP, TOTAL, LOGS, SPEEDS, WATER, LAMP, LATITUDE,
-    LONGITUDE, GROUND, COURSE, TIME, DATE, PILOT, KEY, HEADING, VARIATION, TURN,
-];
-
-// The table as an array.
-fn rows() -> [Row; 21]
-    ensures { result ≡ kinds }
-{
-    KINDS
-}
-
-// The number of the table's row for a command, or 21 where there is none.
-fn index_of(command: u8) -> usize
-    ensures { row_at result ≡ find_of command }
-{
-    let table = rows();
-    let mut i = 0;
-    while i < 21 {
-        let row = table[i];
-        if row.command == command {
-            return i;
-        }
-        i += 1;
-    }
-    21
-}
-
-// The row of a number. Each index is a constant, so that the compiler lays no table out in memory: of the search and this
-// it leaves one jump by the command.
-#[tactic(auto, unfolding(crate::specs::Table::kinds, crate::specs::Table::row_at))]
-fn row_at(index: usize) -> Lookup
-    ensures { result ≡ row_at index }
-{
-    let table = rows();
-    match index {
-        0 => Lookup::Found(table[0]),
-        1 => Lookup::Found(table[1]),
-        2 => Lookup::Found(table[2]),
-        3 => Lookup::Found(table[3]),
-        4 => Lookup::Found(table[4]),
-        5 => Lookup::Found(table[5]),
-        6 => Lookup::Found(table[6]),
-        7 => Lookup::Found(table[7]),
-        8 => Lookup::Found(table[8]),
-        9 => Lookup::Found(table[9]),
-        10 => Lookup::Found(table[10]),
-        11 => Lookup::Found(table[11]),
-        12 => Lookup::Found(table[12]),
-        13 => Lookup::Found(table[13]),
-        14 => Lookup::Found(table[14]),
-        15 => Lookup::Found(table[15]),
-        16 => Lookup::Found(table[16]),
-        17 => Lookup::Found(table[17]),
-        18 => Lookup::Found(table[18]),
-        19 => Lookup::Found(table[19]),
-        20 => Lookup::Found(table[20]),
-        _ => Lookup::Unknown,
-    }
-}
-
 // The table's row for a command.
-pub fn find(command: u8) -> Lookup
+#[tactic(auto, unfolding(crate::specs::Table::kinds, crate::specs::Table::find_of))]
+pub fn find(command: u8) -> Option<Row>
     ensures { result ≡ find_of command }
 {
-    row_at(index_of(command))
+    match command {
+        0x00 => Some(DEPTH),
+        0x10 => Some(WIND_ANGLE),
+        0x11 => Some(WIND_SPEED),
+        0x20 => Some(SPEED),
+        0x21 => Some(TRIP),
+        0x22 => Some(TOTAL),
+        0x25 => Some(LOGS),
+        0x26 => Some(SPEEDS),
+        0x27 => Some(WATER),
+        0x30 => Some(LAMP),
+        0x50 => Some(LATITUDE),
+        0x51 => Some(LONGITUDE),
+        0x52 => Some(GROUND),
+        0x53 => Some(COURSE),
+        0x54 => Some(TIME),
+        0x56 => Some(DATE),
+        0x84 => Some(PILOT),
+        0x86 => Some(KEY),
+        0x89 => Some(HEADING),
+        0x99 => Some(VARIATION),
+        0x9C => Some(TURN),
+        _ => None,
+    }
 }
 
 // The table's row of a kind.
@@ -425,6 +364,5 @@ pub fn kind_of(m: Message) -> Kind
 pub fn command_of(m: Message) -> u8
     ensures { result ≡ command_of m }
 {
-    let row = row_of(kind_of(m));
-    row.command
+    row_of(kind_of(m)).command
 }

@@ -1,55 +1,43 @@
 // The range of each field: the verdict on a message.
 ghost use Rattle.std.specs.Prelude.{◌≡◌};
-ghost use Rattle.message.specs.Range.{range_of, at_most, from_one, within, and_then};
+ghost use Rattle.message.specs.Range.{range_of, at_most, from_one, within};
 
-use crate::{Message, Verdict};
+use crate::Message;
+use datagram::Refusal;
 use datagram::refusals::out_of_range;
 
-fn at_most(field: u8, limit: u32, n: u32) -> Verdict
+fn at_most(field: u8, limit: u32, n: u32) -> Result<(), Refusal>
     ensures { result ≡ at_most field limit n }
 {
     if n <= limit {
-        Verdict::InRange
+        Ok(())
     } else {
-        Verdict::Refused(out_of_range(field))
+        Err(out_of_range(field))
     }
 }
 
-fn from_one(field: u8, limit: u32, n: u32) -> Verdict
+fn from_one(field: u8, limit: u32, n: u32) -> Result<(), Refusal>
     ensures { result ≡ from_one field limit n }
 {
     if n < 1 {
-        return Verdict::Refused(out_of_range(field));
+        return Err(out_of_range(field));
     }
     at_most(field, limit, n)
 }
 
-fn in_bounds(field: u8, low: i32, high: i32, z: i32) -> Verdict
+fn in_bounds(field: u8, low: i32, high: i32, z: i32) -> Result<(), Refusal>
     ensures { result ≡ within field low high z }
 {
-    if low <= z {
-        if z <= high {
-            Verdict::InRange
-        } else {
-            Verdict::Refused(out_of_range(field))
-        }
+    if low <= z && z <= high {
+        Ok(())
     } else {
-        Verdict::Refused(out_of_range(field))
-    }
-}
-
-fn first_of(first: Verdict, later: Verdict) -> Verdict
-    ensures { result ≡ and_then first later }
-{
-    match first {
-        Verdict::InRange => later,
-        Verdict::Refused(r) => Verdict::Refused(r),
+        Err(out_of_range(field))
     }
 }
 
 // Whether the fields are in range, or the refusal of the first that is not.
 #[tactic(auto, unfolding(crate::specs::Range::range_of))]
-pub fn range_of(m: Message) -> Verdict
+pub fn range_of(m: Message) -> Result<(), Refusal>
     ensures { result ≡ range_of m }
 {
     match m {
@@ -60,38 +48,47 @@ pub fn range_of(m: Message) -> Verdict
         Message::Trip { hundredths } => at_most(1, 1048575, hundredths),
         Message::Total { tenths } => at_most(1, 65535, tenths),
         Message::Logs { total, trip } => {
-            first_of(at_most(1, 1048575, total), at_most(2, 1048575, trip))
+            at_most(1, 1048575, total)?;
+            at_most(2, 1048575, trip)
         }
-        Message::Speeds { speed, average, .. } => first_of(
-            at_most(1, 65535, speed),
-            at_most(2, 65535, average),
-        ),
+        Message::Speeds { speed, average, .. } => {
+            at_most(1, 65535, speed)?;
+            at_most(2, 65535, average)
+        }
         Message::Water { tenths } => in_bounds(1, -100, 65435, tenths),
         Message::Lamp { level } => at_most(1, 3, level),
         Message::Latitude {
             degrees,
             hundredths,
             ..
-        } => first_of(at_most(1, 90, degrees), at_most(2, 5999, hundredths)),
+        } => {
+            at_most(1, 90, degrees)?;
+            at_most(2, 5999, hundredths)
+        }
         Message::Longitude {
             degrees,
             hundredths,
             ..
-        } => first_of(at_most(1, 180, degrees), at_most(2, 5999, hundredths)),
+        } => {
+            at_most(1, 180, degrees)?;
+            at_most(2, 5999, hundredths)
+        }
         Message::Ground { tenths } => at_most(1, 65535, tenths),
         Message::Course { halves } => at_most(1, 719, halves),
         Message::Time {
             hours,
             minutes,
             seconds,
-        } => first_of(
-            at_most(1, 23, hours),
-            first_of(at_most(2, 59, minutes), at_most(3, 59, seconds)),
-        ),
-        Message::Date { month, day, year } => first_of(
-            from_one(1, 12, month),
-            first_of(from_one(2, 31, day), at_most(3, 99, year)),
-        ),
+        } => {
+            at_most(1, 23, hours)?;
+            at_most(2, 59, minutes)?;
+            at_most(3, 59, seconds)
+        }
+        Message::Date { month, day, year } => {
+            from_one(1, 12, month)?;
+            from_one(2, 31, day)?;
+            at_most(3, 99, year)
+        }
         Message::Pilot {
             degrees,
             course,
@@ -99,27 +96,33 @@ pub fn range_of(m: Message) -> Verdict
             ss,
             tt,
             ..
-        } => first_of(
-            at_most(1, 359, degrees),
-            first_of(
-                at_most(3, 719, course),
-                first_of(
-                    in_bounds(9, -128, 127, rudder),
-                    first_of(at_most(10, 255, ss), at_most(11, 255, tt)),
-                ),
-            ),
-        ),
-        Message::Key { source, code } => first_of(at_most(1, 15, source), at_most(2, 255, code)),
+        } => {
+            at_most(1, 359, degrees)?;
+            at_most(3, 719, course)?;
+            in_bounds(9, -128, 127, rudder)?;
+            at_most(10, 255, ss)?;
+            at_most(11, 255, tt)
+        }
+        Message::Key { source, code } => {
+            at_most(1, 15, source)?;
+            at_most(2, 255, code)
+        }
         Message::Heading {
             halves,
             reference,
             ..
-        } => first_of(at_most(1, 719, halves), at_most(2, 719, reference)),
+        } => {
+            at_most(1, 719, halves)?;
+            at_most(2, 719, reference)
+        }
         Message::Variation { east } => in_bounds(1, -127, 128, east),
         Message::Turn {
             degrees,
             rudder,
             ..
-        } => first_of(at_most(1, 359, degrees), in_bounds(3, -128, 127, rudder)),
+        } => {
+            at_most(1, 359, degrees)?;
+            in_bounds(3, -128, 127, rudder)
+        }
     }
 }

@@ -1,14 +1,12 @@
 -- What is carried from block to block of a listing: the listener and the counts, and whether the listing goes on
 -- (rules 10.1, 10.3).
-use Rattle.std.specs.Prelude.{ℕ, ◌+◌, ◌%◌, ◌^◌, Bool, true, false}
+use Rattle.std.specs.Prelude.{ℕ, ◌+◌, ◌%◌, ◌^◌, Bool, true, false, Result, Option, Ok, Err, Some, None}
 use Rattle.listener.specs.declared.Heard.{Heard}
 use Rattle.listener.specs.Answers.{is_handed, is_cancelled, is_stray}
 use Rattle.listener.specs.State.{empty_listener}
 use Rattle.recording.specs.declared.Record.{Record}
-use Rattle.recording.specs.declared.Record.TheVariants as record-case
 use Rattle.progress.specs.declared.Progress.{Progress}
-use Rattle.progress.specs.declared.Stop.{Stop}
-use Rattle.progress.specs.declared.Stop.TheVariants.{Running, Stopped}
+use Rattle.datagram.specs.declared.Refusal.{Refusal}
 
 -- nothing heard yet
 abbrev pub begun : Progress
@@ -40,12 +38,12 @@ tallied p handed cancelled stray =
     }
 
 -- what stands at an offset where no whole record is left: the end, or a record cut short
-abbrev pub cut_off : Record → Stop
-cut_off (record-case.Heard time symbol) = Running
-cut_off record-case.End = Running
-cut_off (record-case.Refused r) = Stopped r
+abbrev pub cut_off : Result (Option Record) Refusal → Option Refusal
+cut_off (Ok (Some r)) = None
+cut_off (Ok None) = None
+cut_off (Err r) = Some r
 
 -- a refusal's place counted from so many bytes earlier, on a 64-bit counter
-abbrev pub placed_from : ℕ → Stop → Stop
-placed_from base Running = Running
-placed_from base (Stopped r) = Stopped (record { number = r.number; place = (base + r.place) % 2 ^ 64 })
+abbrev pub placed_from : ℕ → Option Refusal → Option Refusal
+placed_from base None = None
+placed_from base (Some r) = Some (record { number = r.number; place = (base + r.place) % 2 ^ 64 })

@@ -7,7 +7,6 @@ ghost use Rattle.progress.specs.Progress.{begun, counted, tallied, advanced, cut
 
 use datagram::Refusal;
 use listener::{Answer, Heard, Listener};
-use recording::Record;
 
 // What is carried from block to block: the listener, and how many answers of each counted sort it gave.
 #[derive(Clone, Copy)]
@@ -18,36 +17,40 @@ pub struct Progress {
     pub stray: u64,
 }
 
-// Whether the listing goes on, or a record was refused.
-#[derive(Clone, Copy)]
-pub enum Stop {
-    Running,
-    Stopped(Refusal),
-}
-
 // The progress before the first record.
 pub fn begin() -> Progress
     ensures { result ≡ begun }
 {
-    progressed(listener::empty_listener(), 0, 0, 0)
+    Progress {
+        listener: listener::empty_listener(),
+        handed: 0,
+        cancelled: 0,
+        stray: 0,
+    }
 }
 
 // The progress after an answer.
 pub fn advance(p: Progress, h: Heard) -> Progress
     ensures { result ≡ advanced p h }
 {
-    let l = h.listener;
-    let answer = h.answer;
-    let handed = p.handed;
-    let cancelled = p.cancelled;
-    let stray = p.stray;
-    match answer {
-        Answer::Opened => progressed(l, handed, cancelled, stray),
-        Answer::Cancelled => progressed(l, handed, count(true, cancelled), stray),
-        Answer::Stray => progressed(l, handed, cancelled, count(true, stray)),
-        Answer::Kept => progressed(l, handed, cancelled, stray),
-        Answer::HandedOut => progressed(l, count(true, handed), cancelled, stray),
-        Answer::Refused(_) => progressed(l, handed, cancelled, stray),
+    let next = Progress {
+        listener: h.listener,
+        ..p
+    };
+    match h.answer {
+        Answer::Cancelled => Progress {
+            cancelled: count(true, p.cancelled),
+            ..next
+        },
+        Answer::Stray => Progress {
+            stray: count(true, p.stray),
+            ..next
+        },
+        Answer::HandedOut => Progress {
+            handed: count(true, p.handed),
+            ..next
+        },
+        Answer::Opened | Answer::Kept | Answer::Refused(_) => next,
     }
 }
 
@@ -55,57 +58,34 @@ pub fn advance(p: Progress, h: Heard) -> Progress
 pub fn tally(p: Progress, handed: bool, cancelled: bool, stray: bool) -> Progress
     ensures { result ≡ tallied p handed cancelled stray }
 {
-    let l = p.listener;
-    progressed(
-        l,
-        count(handed, p.handed),
-        count(cancelled, p.cancelled),
-        count(stray, p.stray),
-    )
+    Progress {
+        handed: count(handed, p.handed),
+        cancelled: count(cancelled, p.cancelled),
+        stray: count(stray, p.stray),
+        ..p
+    }
 }
 
-// Why a listing ends where no whole record is left: these bytes are none, or a record cut short.
-pub fn end_of(rest: &[u8]) -> Stop
+// What refuses the bytes where no whole record is left: none, or a record cut short.
+pub fn end_of(rest: &[u8]) -> Option<Refusal>
     ensures { result ≡ cut_off (record_of rest.now 0) }
 {
-    match recording::record_at(rest, 0) {
-        Record::Heard { time: _, symbol: _ } => Stop::Running,
-        Record::End => Stop::Running,
-        Record::Refused(r) => Stop::Stopped(r),
-    }
+    recording::record_at(rest, 0).err()
 }
 
-// The refusal's place in the whole input, where the block began at `base`.
-pub fn placed_from(base: u64, stop: Stop) -> Stop
+// The refusal with its place in the whole input, where the block began at `base`.
+pub fn placed_from(base: u64, stop: Option<Refusal>) -> Option<Refusal>
     ensures { result ≡ placed_from base stop }
 {
-    match stop {
-        Stop::Running => Stop::Running,
-        Stop::Stopped(r) => Stop::Stopped(Refusal {
-            number: r.number,
-            place: std::num::wrapping_add_u64(base, r.place),
-        }),
-    }
+    stop.map(|r| Refusal {
+        place: base.wrapping_add(r.place),
+        ..r
+    })
 }
 
 // One more on a counter of 64 bits.
 fn count(on: bool, n: u64) -> u64
     ensures { result ≡ counted on n }
 {
-    if on {
-        std::num::wrapping_add_u64(n, 1)
-    } else {
-        n
-    }
-}
-
-fn progressed(listener: Listener, handed: u64, cancelled: u64, stray: u64) -> Progress
-    ensures { result ≡ (record { listener = listener; handed = handed; cancelled = cancelled; stray = stray }) }
-{
-    Progress {
-        listener: listener,
-        handed: handed,
-        cancelled: cancelled,
-        stray: stray,
-    }
+    if on { n.wrapping_add(1) } else { n }
 }

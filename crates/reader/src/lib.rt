@@ -7,18 +7,19 @@ ghost use Rattle.std.specs.Prelude.{◌≡◌, get_or};
 ghost use Rattle.message.specs.Reading.{read_of, read_kind, read_as, read_sized, judged};
 ghost use Rattle.reader.specs.OfKind.{read_of_kind};
 
+use datagram::Refusal;
 use datagram::refusals::{NOT_WHOLE, UNKNOWN_COMMAND, WRONG_LENGTH};
-use message::{Kind, Lookup, Reading};
+use message::{Kind, Message, Row};
 
 // Reads any bytes: the message, or refusal 3, 4, 5, 6 or 7, in that order.
 #[tactic(auto, unfolding(message::specs::Reading::read_of))]
-pub fn read(bytes: &[u8]) -> Reading
+pub fn read(bytes: &[u8]) -> Result<Message, Refusal>
     ensures { result ≡ read_of bytes.now }
 {
     if datagram::is_whole(bytes) {
         read_as(message::find(byte_at(bytes, 0)), bytes)
     } else {
-        Reading::Refused(NOT_WHOLE)
+        Err(NOT_WHOLE)
     }
 }
 
@@ -26,52 +27,47 @@ pub fn read(bytes: &[u8]) -> Reading
 fn byte_at(bytes: &[u8], i: usize) -> u8
     ensures { result ≡ get_or bytes.now i 0 }
 {
-    if i < bytes.len() { bytes[i] } else { 0 }
+    bytes.get(i).copied().unwrap_or(0)
 }
 
 // Reads a whole datagram by the row that its command was found at: the message, or refusal 4, 5, 6 or 7.
-fn read_as(found: Lookup, bytes: &[u8]) -> Reading
+fn read_as(found: Option<Row>, bytes: &[u8]) -> Result<Message, Refusal>
     ensures { result ≡ read_as found bytes.now }
 {
-    match found {
-        Lookup::Unknown => Reading::Refused(UNKNOWN_COMMAND),
-        Lookup::Found(row) => {
-            let kind = row.kind;
-            read_sized(kind, row.length, bytes)
-        }
-    }
+    let row = found.ok_or(UNKNOWN_COMMAND)?;
+    read_sized(row.kind, row.length, bytes)
 }
 
 // Reads any bytes as a datagram of this kind: the message, or refusal 3, 4, 5, 6 or 7, in that order; 4 where the command is
 // not this kind's. A caller that goes by the kind has the compiler read that kind alone.
 #[tactic(auto, unfolding(crate::specs::OfKind::read_of_kind))]
-pub fn read_of(kind: Kind, bytes: &[u8]) -> Reading
+pub fn read_of(kind: Kind, bytes: &[u8]) -> Result<Message, Refusal>
     ensures { result ≡ read_of_kind kind bytes.now }
 {
     if !datagram::is_whole(bytes) {
-        return Reading::Refused(NOT_WHOLE);
+        return Err(NOT_WHOLE);
     }
     let row = message::row_of(kind);
     if byte_at(bytes, 0) != row.command {
-        return Reading::Refused(UNKNOWN_COMMAND);
+        return Err(UNKNOWN_COMMAND);
     }
     read_sized(kind, row.length, bytes)
 }
 
 // Reads the bytes of a datagram of a kind that has this length: the message, or refusal 5, 6 or 7.
-fn read_sized(kind: Kind, size: u8, bytes: &[u8]) -> Reading
+fn read_sized(kind: Kind, size: u8, bytes: &[u8]) -> Result<Message, Refusal>
     ensures { result ≡ read_sized kind size bytes.now }
 {
     if bytes.len() == size as usize {
         read_kind(kind, bytes)
     } else {
-        Reading::Refused(WRONG_LENGTH)
+        Err(WRONG_LENGTH)
     }
 }
 
 // What the bytes of a datagram of this kind say, if its fields are in range.
 #[tactic(auto, unfolding(message::specs::Reading::read_kind))]
-fn read_kind(kind: Kind, bytes: &[u8]) -> Reading
+fn read_kind(kind: Kind, bytes: &[u8]) -> Result<Message, Refusal>
     ensures { result ≡ judged (read_kind kind bytes.now) }
 {
     match kind {

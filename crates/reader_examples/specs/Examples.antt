@@ -1,18 +1,18 @@
 -- The worked examples E1 to E12 of rules 12, and the one claim over all of them.
-use Rattle.std.specs.Prelude.{ℕ, ◌≡◌, List, [], ◌∷◌, map, ℤ, pos, neg_ℤ}
-use Rattle.message.specs.declared.Reading.{Reading}
-use Rattle.message.specs.declared.Reading.TheVariants.{Read, Refused}
+use Rattle.std.specs.Prelude.{ℕ, ◌≡◌, List, [], ◌∷◌, map, ℤ, pos, neg_ℤ, Result, Ok, Err}
 use Rattle.message.specs.Fields.{command_of, fields_of}
 use Rattle.message.specs.Reading.{read_of}
+use Rattle.datagram.specs.declared.Refusal.{Refusal}
+use Rattle.message.specs.declared.Message.{Message}
 
 -- what a reader makes of bytes: a message's command and fields, or a refusal's number
 pub data Outcome : Type 0 where
   reads : ℕ → List ℤ → Outcome
   refuses : ℕ → Outcome
 
-abbrev pub outcome_of : Reading → Outcome
-outcome_of (Read m) = reads (command_of m) (fields_of m)
-outcome_of (Refused r) = refuses r.number
+abbrev pub outcome_of : Result Message Refusal → Outcome
+outcome_of (Ok m) = reads (command_of m) (fields_of m)
+outcome_of (Err r) = refuses r.number
 
 pub record Example : Type 0 where
   pub bytes : List ℕ

@@ -1,22 +1,15 @@
--- The program's table, row by row that of the examples.
-use Rattle.std.specs.Prelude.{ℕ, [], length, get_or}
-use Rattle.datagram.specs.Padding.{pad_to}
-use Rattle.datagram.specs.Refusals.{not_whole}
+-- The program's table is that of the examples.
+use Rattle.std.specs.Prelude.{ℕ, ◌≡◌, List, map, Option, Some, None}
 use Rattle.reader_examples.specs.declared.Row.{Row}
 use Rattle.reader_examples.specs.Examples.{Outcome, reads, refuses, Example, examples}
 
--- a refusal's number, 0 for a message
-abbrev pub refusal_in : Outcome → ℕ
-refusal_in (reads command fields) = 0
-refusal_in (refuses number) = number
+-- a refusal's number, none for a message
+abbrev pub refusal_in : Outcome → Option ℕ
+refusal_in (reads command fields) = None
+refusal_in (refuses number) = Some number
 
-abbrev pub row_of : Example → Row
-row_of e = record { bytes = pad_to 5 e.bytes; count = length e.bytes; refusal = refusal_in e.expected }
-
--- past the last, no bytes, which are not a whole datagram
-abbrev pub past : Example
-past = record { bytes = []; expected = refuses not_whole.number }
-
--- example i, counted from 0
-unfoldable pub example_at : ℕ → Example
-example_at i = get_or examples i past
+-- row by row, the example's bytes and the refusal that they get
+abbrev pub IsTable : List Row → Type 0
+IsTable rows =
+    (map (λ (r : Row). r.bytes.now) rows ≡ map (λ (e : Example). e.bytes) examples)
+    × (map (λ (r : Row). r.refusal) rows ≡ map (λ (e : Example). refusal_in e.expected) examples)

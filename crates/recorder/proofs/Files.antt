@@ -3,7 +3,7 @@ use mathlib.Core.Path.{◌≡◌, refl, sym, ap, ◌∙◌}
 use mathlib.Core.List.{List, [], ◌∷◌, ◌++◌, append_assoc, append-nil}
 use Prim.Native.Nat.{ℕ, zero, suc, ◌+◌, ◌*◌, ◌≤◌, ◌<◌}
 use native.Mathlib.Omega.{arith}
-use lib.ListN.{length, get_or, take, drop, length-append, length-drop}
+use lib.ListN.{length, get_or, take, drop, length-append}
 use lib.Seq.{length-take-le, sets}
 use Rattle.datagram.proofs.Lent.{grown}
 use Rattle.recording.specs.Record.{record_bytes}
@@ -31,9 +31,6 @@ module _ (times symbols part : List ℕ) (i : ℕ) (e : length times ≡ length 
       let a = length-take-le i times h in
       let b = length-take-le i symbols (omega arith) in
       file_length (take i times) (take i symbols) (a ∙ sym b) ∙ ap (λ (n : ℕ). 8 * n) a
-
-  pub front_length : i ≤ length times → 8 * i ≤ length part → length (file_of (take i times) (take i symbols) ++ drop (8 * i) part) ≡ length part
-  front_length h room = let n = front h in simp (length-append, length-drop) (omega arith)
 
   pub one_more : i < length times → 8 * (i + 1) ≤ length part
       → sets (file_of (take i times) (take i symbols) ++ drop (8 * i) part) (8 * i) (record_bytes (get_or times i 0) (get_or symbols i 0))

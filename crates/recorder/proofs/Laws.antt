@@ -1,4 +1,5 @@
 -- An accepted run met every condition; so the laws of rules 9.5 follow from what its bytes read as.
+use Rattle.std.specs.Prelude.{Ok, Err, None}
 use mathlib.Core.Path.{◌≡◌, refl, sym, ap, ◌∙◌}
 use mathlib.Core.Bool.{Bool, true, false, ◌&&◌, and-eq-true_iff}
 use mathlib.Core.List.{List, [], ◌∷◌, ◌++◌}
@@ -8,12 +9,10 @@ use borrow.Author.Tests.{le-leb, leb-true, leb-false, lt-ltb, le-ltb, eqb-true, 
 use lib.Dec.{leb, eqb}
 use lib.ListN.{length, get_or, take, drop}
 use lib.Seq.{length-take-le, take_at, drop_at}
-use Rattle.datagram.specs.declared.Written.TheVariants.{Wrote, Refused}
 use Rattle.datagram.specs.Position.{Outcome, outcome}
 use Rattle.datagram.specs.Refusals.{no_room, symbol_above, different_lengths}
 use Rattle.datagram.specs.Whole.{all_bytes}
-use Rattle.recording.specs.declared.Record.TheVariants.{Heard, End}
-use Rattle.recording.specs.Record.{record_of}
+use Rattle.recording.specs.Record.{record_of, heard}
 use Rattle.recorder.specs.Recording.{all_symbols, file_of, record_written, run_written}
 use Rattle.recorder.specs.File.{file, read_from, file_read}
 use Rattle.recorder.specs.Laws.{all_times, RecordingLaws}
@@ -34,7 +33,7 @@ module _ (times symbols buffer : List ℕ) (at : ℕ) where
     left : (run_written times symbols buffer at).buffer ≡ stood
 
   written : length times ≡ length symbols → all_symbols symbols ≡ true → at + 8 * length times ≤ length buffer
-      → run_written times symbols buffer at ≡ outcome (Wrote (8 * length times)) stood
+      → run_written times symbols buffer at ≡ outcome (Ok (8 * length times)) stood
   unfolding run_written
   written e f h =
       rw (
@@ -44,7 +43,7 @@ module _ (times symbols buffer : List ℕ) (at : ℕ) where
         le-leb (8 * length times) (length buffer - at) (omega arith),
       )
 
-  judged : (n : ℕ) → (run_written times symbols buffer at).answer ≡ Wrote n → Accepted n
+  judged : (n : ℕ) → (run_written times symbols buffer at).answer ≡ Ok n → Accepted n
   unfolding run_written
   judged n h = go (eqb (length times) (length symbols)) (all_symbols symbols) (leb at (length buffer) && leb (8 * length times) (length buffer - at)) refl refl refl
     where
@@ -56,19 +55,19 @@ module _ (times symbols buffer : List ℕ) (at : ℕ) where
           let fits = leb-true (8 * length times) (length buffer - at) both.1 in
           let room : at + 8 * length times ≤ length buffer = omega arith in
           let done = written same f room in
-          let told : Wrote (8 * length times) ≡ Wrote n = sym (ap (λ (o : Outcome). o.answer) done) ∙ h in
+          let told : Ok (8 * length times) ≡ Ok n = sym (ap (λ (o : Outcome). o.answer) done) ∙ h in
           record { same = same; fit = f; count = cc; room = room; left = ap (λ (o : Outcome). o.buffer) done }
-      go true true false e f g = let told : Refused no_room ≡ Wrote n = rw (e, f, g) at h in let z : ◌≡◌ {A = ℕ} 0 1 = cc in absurd (omega arith)
-      go true false v e f g = let told : Refused symbol_above ≡ Wrote n = rw (e, f) at h in let z : ◌≡◌ {A = ℕ} 0 1 = cc in absurd (omega arith)
-      go false u v e f g = let told : Refused different_lengths ≡ Wrote n = rw e at h in let z : ◌≡◌ {A = ℕ} 0 1 = cc in absurd (omega arith)
+      go true true false e f g = let told : Err no_room ≡ Ok n = rw (e, f, g) at h in let z : ◌≡◌ {A = ℕ} 0 1 = cc in absurd (omega arith)
+      go true false v e f g = let told : Err symbol_above ≡ Ok n = rw (e, f) at h in let z : ◌≡◌ {A = ℕ} 0 1 = cc in absurd (omega arith)
+      go false u v e f g = let told : Err different_lengths ≡ Ok n = rw e at h in let z : ◌≡◌ {A = ℕ} 0 1 = cc in absurd (omega arith)
 
-accepted : (times symbols buffer : List ℕ) (at n : ℕ) → (run_written times symbols buffer at).answer ≡ Wrote n
+accepted : (times symbols buffer : List ℕ) (at n : ℕ) → (run_written times symbols buffer at).answer ≡ Ok n
     → (length times ≡ length symbols) × ((all_symbols symbols ≡ true) × (at + 8 * length times ≤ length buffer))
 accepted times symbols buffer at n h = let k = judged times symbols buffer at n h in (k.same, (k.fit, k.room))
 
 in_place : (times symbols buffer : List ℕ) (at n i : ℕ) → all_times times ≡ true
-    → (run_written times symbols buffer at).answer ≡ Wrote n → i < length times
-    → record_of (run_written times symbols buffer at).buffer (at + 8 * i) ≡ Heard (get_or times i 0) (get_or symbols i 0)
+    → (run_written times symbols buffer at).answer ≡ Ok n → i < length times
+    → record_of (run_written times symbols buffer at).buffer (at + 8 * i) ≡ heard (get_or times i 0) (get_or symbols i 0)
 in_place times symbols buffer at n i t h l =
     let k = judged times symbols buffer at n h in
     let many = length-take-le at buffer (omega (arith, k.room)) in
@@ -76,8 +75,8 @@ in_place times symbols buffer at n i t h l =
     (rw many at (each_placed (take at buffer) times symbols (drop (at + 8 * length times) buffer) i t k.fit k.same l))
 
 own_file : (times symbols buffer : List ℕ) (at n : ℕ) → all_times times ≡ true
-    → (run_written times symbols buffer at).answer ≡ Wrote n
-    → file_read (take n (drop at (run_written times symbols buffer at).buffer)) ≡ file times symbols End
+    → (run_written times symbols buffer at).answer ≡ Ok n
+    → file_read (take n (drop at (run_written times symbols buffer at).buffer)) ≡ file times symbols (Ok None)
 unfolding file_read
 own_file times symbols buffer at n t h =
     let k = judged times symbols buffer at n h in
@@ -89,9 +88,9 @@ own_file times symbols buffer at n t h =
     let many : length (file_of times symbols) / 8 ≡ length times = omega arith in
     rw (k.left, part, many) (file_reads [] times symbols t k.fit k.same)
 
-read_writes : (s buffer : List ℕ) (at : ℕ) → all_bytes s ≡ true → (file_read s).last ≡ End → at + length s ≤ length buffer
+read_writes : (s buffer : List ℕ) (at : ℕ) → all_bytes s ≡ true → (file_read s).last ≡ (Ok None) → at + length s ≤ length buffer
     → run_written (file_read s).times (file_read s).symbols buffer at
-    ≡ outcome (Wrote (length s)) (take at buffer ++ (s ++ drop (at + length s) buffer))
+    ≡ outcome (Ok (length s)) (take at buffer ++ (s ++ drop (at + length s) buffer))
 unfolding file_read
 read_writes s buffer at b e h =
     let f = read_from (length s / 8) s 0 in

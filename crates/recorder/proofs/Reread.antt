@@ -1,4 +1,5 @@
 -- A recording that is read to its end without a refusal: its records' bytes are its own.
+use Rattle.std.specs.Prelude.{Result, Option, Ok, Err, None}
 use mathlib.Core.Path.{◌≡◌, refl, sym, ap, ◌∙◌}
 use mathlib.Core.Bool.{Bool, true, false, cond, ◌&&◌}
 use mathlib.Core.List.{List, [], ◌∷◌, ◌++◌}
@@ -15,11 +16,11 @@ use Rattle.datagram.specs.Refusals.{no_mark, symbol_above_at}
 use Rattle.datagram.specs.Whole.{all_bytes}
 use Rattle.datagram.proofs.Whole.{below_at}
 use Rattle.recording.specs.declared.Record.{Record}
-use Rattle.recording.specs.declared.Record.TheVariants.{Heard, End, Refused}
-use Rattle.recording.specs.Record.{record_bytes, byte_of, time_at, symbol_at}
+use Rattle.recording.specs.Record.{record_bytes, byte_of, time_at, symbol_at, heard}
 use Rattle.recording.proofs.Records.{whole_record, at_end}
 use Rattle.recorder.specs.Recording.{all_symbols, file_of}
 use Rattle.recorder.specs.File.{File, before, read_from}
+use Rattle.datagram.specs.declared.Refusal.{Refusal}
 
 -- the eight bytes of a whole record with its mark
 module _ (s : List ℕ) (at : ℕ) (bytes : all_bytes s ≡ true) (whole : at + 8 ≤ length s) where
@@ -61,7 +62,7 @@ pub record Back (n : ℕ) (s : List ℕ) (at : ℕ) (f : File) : Type 0 where
 -- one record more in front
 one_more : (n : ℕ) (s : List ℕ) (at : ℕ) (later : File) → all_bytes s ≡ true → at + 8 ≤ length s
     → get_or s at 0 ≡ 0x53 → byte_of s at 1 ≡ 0x54 → symbol_at s at ≤ 511
-    → Back n s (at + 8) later → Back (suc n) s at (before (Heard (time_at s at) (symbol_at s at)) later)
+    → Back n s (at + 8) later → Back (suc n) s at (before (heard (time_at s at) (symbol_at s at)) later)
 one_more n s at later all h first second low k =
     record {
       times_many = ap suc k.times_many;
@@ -71,20 +72,20 @@ one_more n s at later all h first second low k =
       bytes = ap (λ (x : List ℕ). record_bytes (time_at s at) (symbol_at s at) ++ x) k.bytes ∙ same_bytes s at all h first second;
     }
 
-pub back : (n : ℕ) (s : List ℕ) (at : ℕ) → all_bytes s ≡ true → at + 8 * n ≤ length s → (read_from n s at).last ≡ End → Back n s at (read_from n s at)
+pub back : (n : ℕ) (s : List ℕ) (at : ℕ) → all_bytes s ≡ true → at + 8 * n ≤ length s → (read_from n s at).last ≡ (Ok None) → Back n s at (read_from n s at)
 unfolding read_from
 back zero s at all h e =
     let n = at_end s at e in
     record { times_many = refl; symbols_many = refl; symbols_fit = refl; whole = omega arith; bytes = sym (ap (λ (k : ℕ). drop k s) (sym n) ∙ drop-length s) }
 back (suc n) s at all h e =
     let whole = whole_record s at (omega arith) in
-    let found = ap (λ (r : Record). before r (read_from n s (at + 8))) whole in
+    let found = ap (λ (r : Result (Option Record) Refusal). before r (read_from n s (at + 8))) whole in
     rw found (go (eqb (get_or s at 0) 0x53) (eqb (byte_of s at 1) 0x54) (leb (symbol_at s at) 511) refl refl refl (back n s (at + 8) all (omega arith)) (rw found at e))
   where
     go : (t u v : Bool) → eqb (get_or s at 0) 0x53 ≡ t → eqb (byte_of s at 1) 0x54 ≡ u → leb (symbol_at s at) 511 ≡ v
-        → ((read_from n s (at + 8)).last ≡ End → Back n s (at + 8) (read_from n s (at + 8)))
-        → (before (cond (t && u) (cond v (Heard (time_at s at) (symbol_at s at)) (Refused (symbol_above_at at))) (Refused (no_mark at))) (read_from n s (at + 8))).last ≡ End
-        → Back (suc n) s at (before (cond (t && u) (cond v (Heard (time_at s at) (symbol_at s at)) (Refused (symbol_above_at at))) (Refused (no_mark at))) (read_from n s (at + 8)))
+        → ((read_from n s (at + 8)).last ≡ (Ok None) → Back n s (at + 8) (read_from n s (at + 8)))
+        → (before (cond (t && u) (cond v (heard (time_at s at) (symbol_at s at)) (Err (symbol_above_at at))) (Err (no_mark at))) (read_from n s (at + 8))).last ≡ Ok None
+        → Back (suc n) s at (before (cond (t && u) (cond v (heard (time_at s at) (symbol_at s at)) (Err (symbol_above_at at))) (Err (no_mark at))) (read_from n s (at + 8)))
     go true true true a b c later last =
         one_more n s at (read_from n s (at + 8)) all (omega arith) (eqb-true _ 0x53 a) (eqb-true _ 0x54 b) (leb-true _ 511 c) (later last)
     go true true false a b c later last = let z : ◌≡◌ {A = ℕ} 0 1 = cc in absurd (omega arith)

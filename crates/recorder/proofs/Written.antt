@@ -1,4 +1,5 @@
 -- What was written reads back: record by record where it stands in a buffer, and as a recording of its own.
+use Rattle.std.specs.Prelude.{Ok, None}
 use mathlib.Core.Path.{◌≡◌, refl, sym, ap, ◌∙◌}
 use mathlib.Core.Bool.{true, and-eq-true_iff}
 use mathlib.Core.List.{List, [], ◌∷◌, ◌++◌, append_assoc, append-nil}
@@ -11,15 +12,14 @@ use lib.ListN.{length, get_or, length-append}
 use lib.Seq.{drop-append_seam}
 use Rattle.number.specs.Word.{word, low_byte, high_byte}
 use Rattle.number.proofs.Longs.{together}
-use Rattle.recording.specs.declared.Record.TheVariants.{Heard, End}
-use Rattle.recording.specs.Record.{record_of, record_bytes}
+use Rattle.recording.specs.Record.{record_of, record_bytes, heard}
 use Rattle.recording.proofs.Records.{whole_record, without}
 use Rattle.recorder.specs.Recording.{all_symbols, file_of}
 use Rattle.recorder.specs.File.{file, before, read_from}
 use Rattle.recorder.specs.Laws.{all_times}
 
 -- the record at the front
-front : (time symbol : ℕ) (rest : List ℕ) → time < 2 ^ 32 → symbol < 512 → record_of (record_bytes time symbol ++ rest) 0 ≡ Heard time symbol
+front : (time symbol : ℕ) (rest : List ℕ) → time < 2 ^ 32 → symbol < 512 → record_of (record_bytes time symbol ++ rest) 0 ≡ heard time symbol
 front time symbol rest t s =
     let both : word (low_byte symbol) (high_byte symbol) ≡ symbol = omega arith in
     whole_record (record_bytes time symbol ++ rest) 0 (omega arith)
@@ -27,7 +27,7 @@ front time symbol rest t s =
 
 -- a record with bytes before it and behind it
 placed : (pre : List ℕ) (time symbol : ℕ) (rest : List ℕ) → time < 2 ^ 32 → symbol < 512
-    → record_of (pre ++ (record_bytes time symbol ++ rest)) (length pre) ≡ Heard time symbol
+    → record_of (pre ++ (record_bytes time symbol ++ rest)) (length pre) ≡ heard time symbol
 placed pre time symbol rest t s =
     let all = pre ++ (record_bytes time symbol ++ rest) in
     ap (record_of all) (sym (add-zero (length pre)))
@@ -54,7 +54,7 @@ along pre time symbol later rest =
     ap (λ (x : List ℕ). pre ++ x) (append_assoc (record_bytes time symbol) later rest) ∙ sym (append_assoc pre (record_bytes time symbol) (later ++ rest))
 
 pub each_placed : (pre times symbols rest : List ℕ) (i : ℕ) → all_times times ≡ true → all_symbols symbols ≡ true → length times ≡ length symbols → i < length times
-    → record_of (pre ++ (file_of times symbols ++ rest)) (length pre + 8 * i) ≡ Heard (get_or times i 0) (get_or symbols i 0)
+    → record_of (pre ++ (file_of times symbols ++ rest)) (length pre + 8 * i) ≡ heard (get_or times i 0) (get_or symbols i 0)
 each_placed pre [] symbols rest i t s e h = absurd (omega arith)
 each_placed pre (time ∷ times) [] rest i t s e h = absurd (omega arith)
 each_placed pre (time ∷ times) (symbol ∷ symbols) rest zero t s e h =
@@ -67,12 +67,12 @@ each_placed pre (time ∷ times) (symbol ∷ symbols) rest (suc i) t s e h =
     rw (along pre time symbol (file_of times symbols) rest, at)
     (each_placed (pre ++ record_bytes time symbol) times symbols rest i k.times_fit k.symbols_fit (omega arith) (omega arith))
 
-the_end : (s : List ℕ) → record_of s (length s) ≡ End
+the_end : (s : List ℕ) → record_of s (length s) ≡ Ok None
 unfolding record_of
 the_end s = rw (le-leb (length s) (length s) (omega arith), eq-eqb (length s) (length s) refl)
 
 pub file_reads : (pre times symbols : List ℕ) → all_times times ≡ true → all_symbols symbols ≡ true → length times ≡ length symbols
-    → read_from (length times) (pre ++ file_of times symbols) (length pre) ≡ file times symbols End
+    → read_from (length times) (pre ++ file_of times symbols) (length pre) ≡ file times symbols (Ok None)
 unfolding read_from
 file_reads pre [] [] t s e = rw (append-nil, the_end pre)
 file_reads pre [] (symbol ∷ symbols) t s e = absurd (omega arith)
@@ -82,4 +82,4 @@ file_reads pre (time ∷ times) (symbol ∷ symbols) t s e =
     let at : length pre + 8 ≡ length (pre ++ record_bytes time symbol) = rw length-append (omega arith) in
     let later = file_reads (pre ++ record_bytes time symbol) times symbols k.times_fit k.symbols_fit (omega arith) in
     rw (placed pre time symbol (file_of times symbols) k.time_fits k.symbol_fits, at, ← append_assoc pre (record_bytes time symbol) (file_of times symbols))
-    (ap (before (Heard time symbol)) later)
+    (ap (before (heard time symbol)) later)

@@ -1,10 +1,8 @@
 -- What is written reads back, and what is read is written back (rules 9.5).
-use Rattle.std.specs.Prelude.{◌≡◌, Bool, true, List, [], ◌∷◌, ◌++◌, ℕ, ◌+◌, ◌*◌, ◌≤◌, ◌<◌, ◌^◌, length, get_or, take, drop}
-use Rattle.datagram.specs.declared.Written.TheVariants.{Wrote}
+use Rattle.std.specs.Prelude.{◌≡◌, Bool, true, List, [], ◌∷◌, ◌++◌, ℕ, ◌+◌, ◌*◌, ◌≤◌, ◌<◌, ◌^◌, length, get_or, take, drop, Ok, None}
 use Rattle.datagram.specs.Position.{outcome}
 use Rattle.datagram.specs.Whole.{all_below, all_bytes}
-use Rattle.recording.specs.declared.Record.TheVariants.{Heard, End}
-use Rattle.recording.specs.Record.{record_of}
+use Rattle.recording.specs.Record.{record_of, heard}
 use Rattle.recorder.specs.Recording.{all_symbols, file_of, record_written, run_written}
 use Rattle.recorder.specs.File.{file, file_read}
 
@@ -17,22 +15,22 @@ pub record RecordingLaws : Type 0 where
   pub written : (times symbols buffer : List ℕ) (at : ℕ) → length times ≡ length symbols → all_symbols symbols ≡ true
       → at + 8 * length times ≤ length buffer
       → run_written times symbols buffer at
-      ≡ outcome (Wrote (8 * length times)) (take at buffer ++ (file_of times symbols ++ drop (at + 8 * length times) buffer))
+      ≡ outcome (Ok (8 * length times)) (take at buffer ++ (file_of times symbols ++ drop (at + 8 * length times) buffer))
   -- no other run is
-  pub accepted : (times symbols buffer : List ℕ) (at n : ℕ) → (run_written times symbols buffer at).answer ≡ Wrote n
+  pub accepted : (times symbols buffer : List ℕ) (at n : ℕ) → (run_written times symbols buffer at).answer ≡ Ok n
       → (length times ≡ length symbols) × ((all_symbols symbols ≡ true) × (at + 8 * length times ≤ length buffer))
   -- a run that was written reads as its own times and symbols, each record where it stands in the buffer
   pub in_place : (times symbols buffer : List ℕ) (at n i : ℕ) → all_times times ≡ true
-      → (run_written times symbols buffer at).answer ≡ Wrote n → i < length times
-      → record_of (run_written times symbols buffer at).buffer (at + 8 * i) ≡ Heard (get_or times i 0) (get_or symbols i 0)
+      → (run_written times symbols buffer at).answer ≡ Ok n → i < length times
+      → record_of (run_written times symbols buffer at).buffer (at + 8 * i) ≡ heard (get_or times i 0) (get_or symbols i 0)
   -- the bytes that it stored, taken as a recording of their own, are these records and nothing more
   pub own_file : (times symbols buffer : List ℕ) (at n : ℕ) → all_times times ≡ true
-      → (run_written times symbols buffer at).answer ≡ Wrote n
-      → file_read (take n (drop at (run_written times symbols buffer at).buffer)) ≡ file times symbols End
+      → (run_written times symbols buffer at).answer ≡ Ok n
+      → file_read (take n (drop at (run_written times symbols buffer at).buffer)) ≡ file times symbols (Ok None)
   -- a whole recording that is read without a refusal and written gives its own bytes
-  pub read_writes : (s buffer : List ℕ) (at : ℕ) → all_bytes s ≡ true → (file_read s).last ≡ End → at + length s ≤ length buffer
+  pub read_writes : (s buffer : List ℕ) (at : ℕ) → all_bytes s ≡ true → (file_read s).last ≡ (Ok None) → at + length s ≤ length buffer
       → run_written (file_read s).times (file_read s).symbols buffer at
-      ≡ outcome (Wrote (length s)) (take at buffer ++ (s ++ drop (at + length s) buffer))
+      ≡ outcome (Ok (length s)) (take at buffer ++ (s ++ drop (at + length s) buffer))
   -- one record is a run of one
   pub one_is_run : (time symbol : ℕ) (buffer : List ℕ) (at : ℕ)
       → record_written time symbol buffer at ≡ run_written (time ∷ []) (symbol ∷ []) buffer at

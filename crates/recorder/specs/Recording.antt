@@ -1,6 +1,5 @@
 -- Records written into a lent buffer of bytes, from the position that the caller names (rules 9.3, 9.4).
-use Rattle.std.specs.Prelude.{ℕ, ◌*◌, Bool, cond, List, [], ◌∷◌, ◌++◌, leb, eqb, length}
-use Rattle.datagram.specs.declared.Written.TheVariants.{Refused}
+use Rattle.std.specs.Prelude.{ℕ, ◌*◌, Bool, cond, List, [], ◌∷◌, ◌++◌, leb, eqb, length, Err}
 use Rattle.datagram.specs.Position.{Outcome, outcome, stored_at}
 use Rattle.datagram.specs.Refusals.{different_lengths, symbol_above}
 use Rattle.datagram.specs.Whole.{all_below}
@@ -9,7 +8,7 @@ use Rattle.recording.specs.Record.{record_bytes}
 -- one record: refusal 1 for a symbol above 511, then 8
 unfoldable pub record_written : ℕ → ℕ → List ℕ → ℕ → Outcome
 record_written time symbol buffer at =
-    cond (leb symbol 511) (stored_at 8 (record_bytes time symbol) buffer at) (outcome (Refused symbol_above) buffer)
+    cond (leb symbol 511) (stored_at 8 (record_bytes time symbol) buffer at) (outcome (Err symbol_above) buffer)
 
 -- every number is a symbol, 0 to 511
 abbrev pub all_symbols : List ℕ → Bool
@@ -27,5 +26,5 @@ run_written times symbols buffer at =
     cond (eqb (length times) (length symbols))
     (cond (all_symbols symbols)
     (stored_at (8 * length times) (file_of times symbols) buffer at)
-    (outcome (Refused symbol_above) buffer))
-    (outcome (Refused different_lengths) buffer)
+    (outcome (Err symbol_above) buffer))
+    (outcome (Err different_lengths) buffer)

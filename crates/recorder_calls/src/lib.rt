@@ -5,7 +5,7 @@ ghost use Rattle.std.specs.Prelude.{◌≡◌};
 ghost use Rattle.recorder.specs.Recording.{record_written, run_written};
 ghost use Rattle.recorder_calls.specs.Code.{code_of, shown};
 
-use datagram::Written;
+use datagram::Refusal;
 
 #[unsafe(no_mangle)]
 pub extern "C" fn recorder_record(time: u32, symbol: u16, buf: &mut [u8], at: usize) -> u64
@@ -23,12 +23,11 @@ pub extern "C" fn recorder_records(times: &[u32], symbols: &[u16], buf: &mut [u8
 
 // The number of bytes stored, or 2^64 - 1 minus the refusal's number and 256 times its place.
 #[tactic(auto, unfolding(crate::specs::Code::code_of))]
-fn code_of(w: Written) -> u64
+fn code_of(w: Result<usize, Refusal>) -> u64
     ensures { result ≡ code_of w }
 {
     match w {
-        Written::Wrote(n) => n as u64,
-        Written::Refused(r) => 18446744073709551615
-            - (r.number as u64 + 256 * (r.place % 16777216)),
+        Ok(n) => n as u64,
+        Err(r) => 18446744073709551615 - (r.number as u64 + 256 * (r.place % 16777216)),
     }
 }

@@ -8,28 +8,27 @@ use datagram::Refusal;
 use datagram::refusals::{cut_short, no_mark, symbol_above_at};
 use number::{long_of, word_of};
 
-// What stands at an offset of a recording.
+// One record: a symbol, and the time at which it was heard.
 #[derive(Clone, Copy)]
-pub enum Record {
-    Heard { time: u32, symbol: u16 },
-    End,
-    Refused(Refusal),
+pub struct Record {
+    pub time: u32,
+    pub symbol: u16,
 }
 
-// The record at an offset: its time and symbol, the end, or refusal 11, 10 or 1, in that order, with the offset as the place.
+// The record at an offset, none at the end, or refusal 11, 10 or 1, in that order, with the offset as the place.
 #[tactic(auto, using(crate::proofs::CutShort::cut))]
-pub fn record_at(bytes: &[u8], at: usize) -> Record
+pub fn record_at(bytes: &[u8], at: usize) -> Result<Option<Record>, Refusal>
     ensures { result ≡ record_of bytes.now at }
 {
     let n = bytes.len();
     if n < at {
-        return Record::Refused(cut_short(at));
+        return Err(cut_short(at));
     }
     if n == at {
-        return Record::End;
+        return Ok(None);
     }
     if n - at < 8 {
-        return Record::Refused(cut_short(at));
+        return Err(cut_short(at));
     }
     judged(
         at,
@@ -41,20 +40,23 @@ pub fn record_at(bytes: &[u8], at: usize) -> Record
 }
 
 // The record of a mark, a time and the symbol's word.
-fn judged(at: usize, mark: u8, second: u8, time: u32, symbol: u32) -> Record
+fn judged(
+    at: usize,
+    mark: u8,
+    second: u8,
+    time: u32,
+    symbol: u32,
+) -> Result<Option<Record>, Refusal>
     ensures { result ≡ judged_record at mark second time symbol }
 {
-    if mark != 0x53 {
-        return Record::Refused(no_mark(at));
-    }
-    if second != 0x54 {
-        return Record::Refused(no_mark(at));
+    if mark != 0x53 || second != 0x54 {
+        return Err(no_mark(at));
     }
     if 511 < symbol {
-        return Record::Refused(symbol_above_at(at));
+        return Err(symbol_above_at(at));
     }
-    Record::Heard {
-        time: time,
+    Ok(Some(Record {
+        time,
         symbol: symbol as u16,
-    }
+    }))
 }

@@ -1,4 +1,5 @@
 -- Each kind says, of the bytes that it is written in, the message that was written.
+use Rattle.std.specs.Prelude.{Result, Ok}
 use mathlib.Core.Path.{◌≡◌, ap, ap₂, ◌∙◌}
 use mathlib.Core.Bool.{Bool, true, false}
 use Prim.Native.Nat.{ℕ, ◌+◌, ◌-◌, ◌*◌, ◌/◌, ◌%◌, ◌≤◌, ◌<◌}
@@ -15,9 +16,6 @@ use Rattle.angle.specs.Quarter.{quarter_angle, quarter_digits}
 use Rattle.angle.proofs.Laws.{half_six, half_reads_lem, whole_six, whole_reads_lem, whole_way, quarter_reads}
 use Rattle.message.specs.declared.Message.{Message}
 use Rattle.message.specs.declared.Message.TheVariants.{Depth, WindAngle, WindSpeed, Speed, Trip, Total, Logs, Speeds, Water, Lamp, Latitude, Longitude, Ground, Course, Time, Date, Pilot, Key, Heading, Variation, Turn}
-use Rattle.message.specs.declared.Reading.{Reading}
-use Rattle.message.specs.declared.Reading.TheVariants.{Read}
-use Rattle.message.specs.declared.Verdict.TheVariants.{InRange}
 use Rattle.message.specs.Range.{range_of, at_most, from_one, within, and_then}
 use Rattle.message.specs.Spelling.{bytes_of}
 use Rattle.message.specs.Decode.{spelled}
@@ -26,6 +24,7 @@ use Rattle.message.specs.Fields.{kind_of}
 use Rattle.roundtrip_laws.proofs.Lists.{num_small}
 use Rattle.roundtrip_laws.proofs.Limits.{at_most_lem, from_one_lem, inside, both, both_at_most}
 use Rattle.roundtrip_laws.proofs.Signs.{water_reads, rudder_reads, variation_reads}
+use Rattle.datagram.specs.declared.Refusal.{Refusal}
 
 -- a bit of a byte is the flag that was put there
 flag : (n : ℕ) (b : Bool) → n ≡ num b → eqb n 1 ≡ b
@@ -33,7 +32,7 @@ flag n true e = eq-eqb n 1 e
 flag n false e = rw e
 
 -- a field that is spelled right is read
-well : (k : ℕ) (b : Bool) (reading : Reading) → b ≡ true → spelled k b reading ≡ reading
+well : (k : ℕ) (b : Bool) (reading : Result Message Refusal) → b ≡ true → spelled k b reading ≡ reading
 well k b reading e = rw e
 
 -- seven bits, and a flag above them
@@ -73,7 +72,7 @@ quarter halves vw h e = (
   ap (λ (q : ℕ). quarter_angle q (quarter_digits halves).xy) e ∙ quarter_reads halves (omega arith),
 )
 
-pub decodes : (m : Message) → range_of m ≡ InRange → read_kind (kind_of m) (bytes_of m) ≡ Read m
+pub decodes : (m : Message) → range_of m ≡ (Ok tt) → read_kind (kind_of m) (bytes_of m) ≡ Ok m
 unfolding range_of read_kind kind_of bytes_of
 decodes (Depth tenths anchor metric defective deep shallow) r =
     let limit = at_most_lem 1 65535 tenths r in
@@ -91,18 +90,18 @@ decodes (Depth tenths anchor metric defective deep shallow) r =
       flag (yz / 2 % 2) deep (omega arith),
       flag (yz / 1 % 2) shallow (omega arith),
     )
-decodes (WindAngle halves) r = ap (λ (n : ℕ). Read (WindAngle n)) (omega (arith, at_most_lem 1 719 halves r))
+decodes (WindAngle halves) r = ap (λ (n : ℕ). Ok (WindAngle n)) (omega (arith, at_most_lem 1 719 halves r))
 decodes (WindSpeed tenths metres) r =
     let limit = at_most_lem 1 1279 tenths r in
     let high = seven (tenths / 10 % 128) metres (omega arith) in
     let t : 10 * ((tenths / 10 % 128 + 128 * num metres) % 128) + tenths % 10 % 16 ≡ tenths = omega arith in
     well 1 _ _ (le-leb (tenths % 10 % 16) 9 (omega arith)) ∙ cc
-decodes (Speed tenths) r = ap (λ (n : ℕ). Read (Speed n)) (omega (arith, at_most_lem 1 65535 tenths r))
-decodes (Trip hundredths) r = ap (λ (n : ℕ). Read (Trip n)) (omega (arith, at_most_lem 1 1048575 hundredths r))
-decodes (Total tenths) r = ap (λ (n : ℕ). Read (Total n)) (omega (arith, at_most_lem 1 65535 tenths r))
+decodes (Speed tenths) r = ap (λ (n : ℕ). Ok (Speed n)) (omega (arith, at_most_lem 1 65535 tenths r))
+decodes (Trip hundredths) r = ap (λ (n : ℕ). Ok (Trip n)) (omega (arith, at_most_lem 1 1048575 hundredths r))
+decodes (Total tenths) r = ap (λ (n : ℕ). Ok (Total n)) (omega (arith, at_most_lem 1 65535 tenths r))
 decodes (Logs total trip) r =
     let limits = both_at_most 1 1048575 total 2 1048575 trip r in
-    ap₂ (λ (n k : ℕ). Read (Logs n k)) (omega arith) (omega arith)
+    ap₂ (λ (n k : ℕ). Ok (Logs n k)) (omega arith) (omega arith)
 decodes (Speeds speed average valid stopped mph) r =
     let limits = both_at_most 1 65535 speed 2 65535 average r in
     let v = num_small valid in
@@ -115,10 +114,10 @@ decodes (Speeds speed average valid stopped mph) r =
 decodes (Water tenths) r =
     let ranges = inside 1 (neg_ℤ (pos 100)) (pos 65435) tenths r in
     let n : ℕ = of_z w32 tenths + 100 in
-    ap (λ (z : ℤ). Read (Water z)) (water_reads tenths ranges.0 ranges.1 (word (low_byte n) (high_byte n)) (omega arith))
+    ap (λ (z : ℤ). Ok (Water z)) (water_reads tenths ranges.0 ranges.1 (word (low_byte n) (high_byte n)) (omega arith))
 decodes (Lamp level) r =
     let limit = at_most_lem 1 3 level r in
-    well 1 _ _ (eq-eqb (4 * (level % 4) % 4) 0 (omega arith)) ∙ ap (λ (n : ℕ). Read (Lamp n)) (omega arith)
+    well 1 _ _ (eq-eqb (4 * (level % 4) % 4) 0 (omega arith)) ∙ ap (λ (n : ℕ). Ok (Lamp n)) (omega arith)
 decodes (Latitude degrees hundredths south) r =
     let limits = both_at_most 1 90 degrees 2 5999 hundredths r in
     let written = coordinate degrees hundredths south (omega arith) limits.1 in
@@ -127,14 +126,14 @@ decodes (Longitude degrees hundredths east) r =
     let limits = both_at_most 1 180 degrees 2 5999 hundredths r in
     let written = coordinate degrees hundredths east limits.0 limits.1 in
     cc
-decodes (Ground tenths) r = ap (λ (n : ℕ). Read (Ground n)) (omega (arith, at_most_lem 1 65535 tenths r))
+decodes (Ground tenths) r = ap (λ (n : ℕ). Ok (Ground n)) (omega (arith, at_most_lem 1 65535 tenths r))
 decodes (Course halves) r =
     let limit = at_most_lem 1 719 halves r in
     let small = half_six halves in
     let u : 16 * (half_digits halves).u / 16 ≡ (half_digits halves).u = omega arith in
     let six : (half_digits halves).six % 64 ≡ (half_digits halves).six = omega arith in
     well 1 _ _ (le-leb ((half_digits halves).six % 64) 44 (omega arith))
-    ∙ ap (λ (n : ℕ). Read (Course n)) (ap₂ half_angle u six ∙ half_reads_lem halves (omega arith))
+    ∙ ap (λ (n : ℕ). Ok (Course n)) (ap₂ half_angle u six ∙ half_reads_lem halves (omega arith))
 decodes (Time hours minutes seconds) r =
     let ranges = both (at_most 1 23 hours) (and_then (at_most 2 59 minutes) (at_most 3 59 seconds)) r in
     let limit = at_most_lem 1 23 hours ranges.0 in
@@ -187,7 +186,7 @@ decodes (Pilot degrees right course auto vane track offCourse windShift rudder s
 decodes (Key source code) r =
     let limits = both_at_most 1 15 source 2 255 code r in
     rw (eq-eqb (code % 256 + (255 - code % 256)) 255 (omega arith))
-    (ap₂ (λ (n k : ℕ). Read (Key n k)) (omega arith) (omega arith))
+    (ap₂ (λ (n k : ℕ). Ok (Key n k)) (omega arith) (omega arith))
 decodes (Heading halves reference locked) r =
     let limits = both_at_most 1 719 halves 2 719 reference r in
     let small = half_six halves in
@@ -201,7 +200,7 @@ decodes (Heading halves reference locked) r =
     ∙ cc (ap₂ half_angle u parts.0 ∙ half_reads_lem halves (omega arith), flag ((0x20 + 2 * num locked) / 2 % 2) locked (omega arith))
 decodes (Variation east) r =
     let ranges = inside 1 (neg_ℤ (pos 127)) (pos 128) east r in
-    ap (λ (z : ℤ). Read (Variation z)) (variation_reads east ranges.0 ranges.1)
+    ap (λ (z : ℤ). Ok (Variation z)) (variation_reads east ranges.0 ranges.1)
 decodes (Turn degrees right rudder) r =
     let ranges = both (at_most 1 359 degrees) (within 3 (neg_ℤ (pos 128)) (pos 127) rudder) r in
     let bounds = inside 3 (neg_ℤ (pos 128)) (pos 127) rudder ranges.1 in

@@ -1,5 +1,6 @@
 -- Bytes that differ in ignored bits alone read the same: what a kind says of a byte is the same of the byte with its ignored
 -- bits cleared, by one test over all bytes.
+use Rattle.std.specs.Prelude.{Some}
 use mathlib.Core.Path.{◌≡◌, sym, ap, ◌∙◌}
 use mathlib.Core.Bool.{true, and-eq-true_iff}
 use mathlib.Core.List.{List, [], ◌∷◌}
@@ -13,7 +14,6 @@ use Rattle.datagram.specs.Whole.{whole, all_bytes}
 use Rattle.message.specs.declared.Kind.{Kind}
 use Rattle.message.specs.declared.Kind.TheVariants.{Depth, WindAngle, WindSpeed, Speed, Trip, Total, Logs, Speeds, Water, Lamp, Latitude, Longitude, Ground, Course, Time, Date, Pilot, Key, Heading, Variation, Turn}
 use Rattle.message.specs.declared.Row.{Row}
-use Rattle.message.specs.declared.Lookup.TheVariants.{Found}
 use Rattle.message.specs.Table.{find_of}
 use Rattle.message.specs.Reading.{byte, read_kind, read_of}
 use Rattle.roundtrip_laws.specs.Ignored.{Ignored, ignored, agree_outside}
@@ -162,7 +162,7 @@ both_whole : (s t : List ℕ) → length s ≡ length t → byte s 1 % 16 ≡ by
 unfolding whole
 both_whole s t long declares = cc
 
-pub ignored_unread : (s t : List ℕ) (row : Row) → all_bytes s ≡ true → all_bytes t ≡ true → find_of (byte s 0) ≡ Found row
+pub ignored_unread : (s t : List ℕ) (row : Row) → all_bytes s ≡ true → all_bytes t ≡ true → find_of (byte s 0) ≡ Some row
     → length s ≡ length t → agree_outside (ignored row.kind) s t ≡ true → read_of s ≡ read_of t
 unfolding read_of
 ignored_unread s t row b c found long agree =

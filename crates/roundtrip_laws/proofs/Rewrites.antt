@@ -1,4 +1,5 @@
 -- Each kind's datagram, read and written again, gives its own bytes, if its ignored bits stand as the writer sets them.
+use Rattle.std.specs.Prelude.{Result, Ok, Err}
 use mathlib.Core.Path.{◌≡◌, refl, ap, ap₂, ◌∙◌}
 use mathlib.Core.Bool.{Bool, true, false, cond}
 use mathlib.Core.List.{List, [], ◌∷◌}
@@ -24,8 +25,6 @@ use Rattle.message.specs.declared.Kind.{Kind}
 use Rattle.message.specs.declared.Kind.TheVariants as kind
 use Rattle.message.specs.declared.Message.{Message}
 use Rattle.message.specs.declared.Message.TheVariants.{WindSpeed, Lamp, Course, Pilot, Key, Heading, Turn}
-use Rattle.message.specs.declared.Reading.{Reading}
-use Rattle.message.specs.declared.Reading.TheVariants.{Read, Refused}
 use Rattle.message.specs.Spelling.{bytes_of}
 use Rattle.message.specs.Decode.{spelled}
 use Rattle.message.specs.Reading.{byte, read_kind}
@@ -38,21 +37,21 @@ use Rattle.message.proofs.Found.{Each, ◌and◌, end}
 use Rattle.roundtrip_laws.proofs.Signs.{water_spells}
 
 -- what holds of the message, if one is read
-abbrev pub IfRead : Reading → (Message → Type 0) → Type 0
-IfRead (Read m) Q = Q m
-IfRead (Refused r) Q = Unit {0}
+abbrev pub IfRead : Result Message Refusal → (Message → Type 0) → Type 0
+IfRead (Ok m) Q = Q m
+IfRead (Err r) Q = Unit {0}
 
-if_passed : (b : Bool) (reading : Reading) (r : Refusal) (Q : Message → Type 0) → (b ≡ true → IfRead reading Q)
-    → IfRead (cond b reading (Refused r)) Q
+if_passed : (b : Bool) (reading : Result Message Refusal) (r : Refusal) (Q : Message → Type 0) → (b ≡ true → IfRead reading Q)
+    → IfRead (cond b reading (Err r)) Q
 if_passed true reading r Q f = f refl
 if_passed false reading r Q f = tt
 
 -- both angles are spelled right: the six low bits of VW, field 1, and XY, field k (89 and 84)
 if_spelled : (vw xy k : ℕ) (m : Message) (Q : Message → Type 0) → (vw % 64 ≤ 44 → xy ≤ 179 → Q m)
-    → IfRead (spelled 1 (leb (vw % 64) 44) (spelled k (leb xy 179) (Read m))) Q
+    → IfRead (spelled 1 (leb (vw % 64) 44) (spelled k (leb xy 179) (Ok m))) Q
 if_spelled vw xy k m Q f =
-    if_passed (leb (vw % 64) 44) (spelled k (leb xy 179) (Read m)) (out_of_range 1) Q
-    (λ p. if_passed (leb xy 179) (Read m) (out_of_range k) Q (λ q. f (leb-true (vw % 64) 44 p) (leb-true xy 179 q)))
+    if_passed (leb (vw % 64) 44) (spelled k (leb xy 179) (Ok m)) (out_of_range 1) Q
+    (λ p. if_passed (leb xy 179) (Ok m) (out_of_range k) Q (λ q. f (leb-true (vw % 64) 44 p) (leb-true xy 179 q)))
 
 -- the message is written as this datagram, if the ignored bits stand
 abbrev pub Back : List ℕ → Message → Type 0
@@ -75,7 +74,7 @@ wind_angle a b c d head h = same _ _ (omega (arith, clear h.1.0))
 wind_speed : Rewritten 0x11 4 kind.WindSpeed
 unfolding read_kind kind_of ignored bytes_of
 wind_speed a b c d head =
-    if_passed (leb (d % 16) 9) (Read (WindSpeed (10 * (c % 128) + d % 16) (bit 128 c))) (out_of_range 1) (Back (a ∷ b ∷ c ∷ d ∷ []))
+    if_passed (leb (d % 16) 9) (Ok (WindSpeed (10 * (c % 128) + d % 16) (bit 128 c))) (out_of_range 1) (Back (a ∷ b ∷ c ∷ d ∷ []))
     (λ e h. same _ _ (omega (arith, leb-true (d % 16) 9 e, clear h.1.0, clear h.1.1.1.0, seven h.1.1.0)))
 
 speed : Rewritten 0x20 4 kind.Speed
@@ -106,7 +105,7 @@ water a b c d head h = same _ _ (omega (arith, clear h.1.0, water_spells (c + 25
 lamp : Rewritten 0x30 3 kind.Lamp
 unfolding read_kind kind_of ignored bytes_of
 lamp a b c head =
-    if_passed (eqb (c % 4) 0) (Read (Lamp (c % 16 / 4))) (out_of_range 1) (Back (a ∷ b ∷ c ∷ []))
+    if_passed (eqb (c % 4) 0) (Ok (Lamp (c % 16 / 4))) (out_of_range 1) (Back (a ∷ b ∷ c ∷ []))
     (λ e h. same _ _ (omega (arith, eqb-true (c % 4) 0 e, clear h.1.0, clear h.1.1.0)))
 
 latitude : Rewritten 0x50 5 kind.Latitude
@@ -124,7 +123,7 @@ ground a b c d head h = same _ _ (omega (arith, clear h.1.0))
 course : Rewritten 0x53 3 kind.Course
 unfolding read_kind kind_of ignored bytes_of
 course a b c head =
-    if_passed (leb (c % 64) 44) (Read (Course (half_angle (b / 16) (c % 64)))) (out_of_range 1) (Back (a ∷ b ∷ c ∷ []))
+    if_passed (leb (c % 64) 44) (Ok (Course (half_angle (b / 16) (c % 64)))) (out_of_range 1) (Back (a ∷ b ∷ c ∷ []))
     (λ e h.
     let six = leb-true (c % 64) 44 e in
     ap (λ (g : Digits). 0x53 ∷ (16 * g.u) ∷ g.six ∷ []) (half_spells (b / 16) (c % 64) (omega arith) (omega arith))
@@ -157,7 +156,7 @@ pilot a b c d e f g i j head =
 key : Rewritten 0x86 4 kind.Key
 unfolding read_kind kind_of ignored bytes_of
 key a b c d head =
-    if_passed (eqb (c + d) 255) (Read (Key (b / 16) c)) bad_repeat (Back (a ∷ b ∷ c ∷ d ∷ []))
+    if_passed (eqb (c + d) 255) (Ok (Key (b / 16) c)) bad_repeat (Back (a ∷ b ∷ c ∷ d ∷ []))
     (λ e h. same _ _ (omega (arith, eqb-true (c + d) 255 e)))
 
 heading : Rewritten 0x89 5 kind.Heading
@@ -177,7 +176,7 @@ variation a b c head h = same _ _ (omega (arith, clear h.1.0, kept h.1.1.0 (λ x
 turn : Rewritten 0x9C 4 kind.Turn
 unfolding read_kind kind_of ignored bytes_of
 turn a b c d head =
-    if_passed (leb (c % 64) 44) (Read (Turn (whole_angle (b / 16) (c % 64)) (turns_right (b / 16)) (to_z w8 d))) (out_of_range 1) (Back (a ∷ b ∷ c ∷ d ∷ []))
+    if_passed (leb (c % 64) 44) (Ok (Turn (whole_angle (b / 16) (c % 64)) (turns_right (b / 16)) (to_z w8 d))) (out_of_range 1) (Back (a ∷ b ∷ c ∷ d ∷ []))
     (λ e h.
     let six = leb-true (c % 64) 44 e in
     ap (λ (g : Digits). 0x9C ∷ (16 * g.u + 1) ∷ g.six ∷ (of_z w32 (to_z w8 d) % 256) ∷ []) (whole_spells (b / 16) (c % 64) (omega arith) (omega arith))

@@ -1,8 +1,8 @@
 -- The table of kinds: the row of each message.
+use Rattle.std.specs.Prelude.{Some}
 use mathlib.Core.Path.{◌≡◌, refl}
 use lib.ListN.{length}
 use Rattle.message.specs.declared.Row.{Row}
-use Rattle.message.specs.declared.Lookup.TheVariants.{Found}
 use Rattle.message.specs.declared.Message.{Message}
 use Rattle.message.specs.declared.Message.TheVariants.{Depth, WindAngle, WindSpeed, Speed, Trip, Total, Logs, Speeds, Water, Lamp, Latitude, Longitude, Ground, Course, Time, Date, Pilot, Key, Heading, Variation, Turn}
 use Rattle.message.specs.Spelling.{bytes_of}
@@ -14,7 +14,7 @@ use Rattle.message.specs.Fields.{kind_of}
 abbrev pub row_of : Message → Row
 row_of m = record { command = byte (bytes_of m) 0; length = length (bytes_of m); kind = kind_of m }
 
-pub finds : (m : Message) → find_of (byte (bytes_of m) 0) ≡ Found (row_of m)
+pub finds : (m : Message) → find_of (byte (bytes_of m) 0) ≡ Some (row_of m)
 unfolding find_of kinds bytes_of kind_of
 finds (Depth tenths anchor metric defective deep shallow) = refl
 finds (WindAngle halves) = refl

@@ -1,4 +1,5 @@
 -- The fields of a message in range have 32 bits with their signs.
+use Rattle.std.specs.Prelude.{Ok}
 use mathlib.Core.Path.{◌≡◌}
 use mathlib.Core.Bool.{Bool, true}
 use mathlib.Core.List.{[], ◌∷◌}
@@ -12,7 +13,6 @@ use mir.Val.{SFits}
 use Rattle.number.specs.Word.{num}
 use Rattle.message.specs.declared.Message.{Message}
 use Rattle.message.specs.declared.Message.TheVariants.{Depth, WindAngle, WindSpeed, Speed, Trip, Total, Logs, Speeds, Water, Lamp, Latitude, Longitude, Ground, Course, Time, Date, Pilot, Key, Heading, Variation, Turn}
-use Rattle.message.specs.declared.Verdict.TheVariants.{InRange}
 use Rattle.message.specs.Fields.{fields_of}
 use Rattle.message.specs.Range.{range_of, at_most, from_one, within, and_then}
 use Rattle.from_fields.specs.Numbers.{AllFit}
@@ -29,7 +29,7 @@ bounded : (low high : ℕ) (z : ℤ) → low < 2147483648 → high < 2147483648 
 bounded low high (pos n) l h e = record { sfits = omega (arith, leb-true n high e.1) }
 bounded low high (negsuc n) l h e = record { sfits = omega (arith, leb-true n low e.0) }
 
-pub fields_fit : (m : Message) → range_of m ≡ InRange → AllFit (fields_of m)
+pub fields_fit : (m : Message) → range_of m ≡ (Ok tt) → AllFit (fields_of m)
 unfolding range_of fields_of
 fields_fit (Depth tenths anchor metric defective deep shallow) r = (small (omega (arith, at_most_lem 1 65535 tenths r)), (flag anchor, (flag metric, (flag defective, (flag deep, (flag shallow, tt))))))
 fields_fit (WindAngle halves) r = (small (omega (arith, at_most_lem 1 719 halves r)), tt)

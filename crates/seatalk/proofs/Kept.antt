@@ -1,4 +1,5 @@
 -- What the listener keeps of a state is one more byte.
+use Rattle.std.specs.Prelude.{Ok}
 use mathlib.Core.Path.{◌≡◌, refl, sym, ap, ◌∙◌}
 use mathlib.Core.Bool.{Bool, true, false, cond}
 use mathlib.Core.List.{List, [], ◌∷◌, ◌++◌}
@@ -18,12 +19,11 @@ use Rattle.listener.specs.declared.Answer.TheVariants.{Kept}
 use Rattle.listener.specs.State.{sound, held_bytes, holding}
 use Rattle.listener.specs.Step.{hear_of, step, command_symbol, other_symbol, quiet, handed, refused_by}
 use Rattle.listener.proofs.Sound.{Held, held_by}
-use Rattle.seatalk.specs.declared.hear.Numbered.TheVariants.{Number}
 use Rattle.seatalk.specs.Hear.{listener_of, number_of, Longer}
 
 -- what is due where an outcome is answer 3
 abbrev Due : List ℕ → ℕ → Heard → Type 0
-Due state byte h = number_of h.answer ≡ Number 3 → Longer byte h.listener state
+Due state byte h = number_of h.answer ≡ Ok 3 → Longer byte h.listener state
 
 of_command : (state xs : List ℕ) (byte b : ℕ) → Due state byte (command_symbol xs b)
 of_command state [] byte b e = let z : ◌≡◌ {A = ℕ} 0 3 = cc in absurd (omega arith)
@@ -95,7 +95,7 @@ module _ (first : ℕ) (rest : List ℕ) (symbol : ℕ) (long : length rest ≡ 
   by_size false = by_soundness (sound (listener_of (first ∷ rest))) refl
 
 -- what answer 3 leaves
-pub one_longer : (state : List ℕ) (symbol : ℕ) → length state ≡ 18 → number_of (hear_of (listener_of state) symbol).answer ≡ Number 3
+pub one_longer : (state : List ℕ) (symbol : ℕ) → length state ≡ 18 → number_of (hear_of (listener_of state) symbol).answer ≡ Ok 3
     → Longer (symbol % 256) (hear_of (listener_of state) symbol).listener state
 unfolding hear_of
 one_longer [] symbol long = absurd (omega arith)

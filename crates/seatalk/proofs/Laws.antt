@@ -1,4 +1,5 @@
 -- The C writer's fields are the reader's: the message that a message's own command and fields name is that message.
+use Rattle.std.specs.Prelude.{Option, Ok, None}
 use mathlib.Core.Path.{◌≡◌, refl, ap, ap₂, ◌∙◌}
 use mathlib.Core.Bool.{Bool, true, false}
 use mathlib.Core.List.{List, [], ◌∷◌}
@@ -12,21 +13,19 @@ use mir.Val.{to_z, of_z}
 use mir.ValLaws.{to_z-of_z, of_z_fits}
 use Rattle.number.specs.Word.{num}
 use Rattle.number.proofs.Longs.{together}
-use Rattle.message.specs.declared.Lookup.{Lookup}
 use Rattle.message.specs.declared.Message.{Message}
 use Rattle.message.specs.declared.Message.TheVariants.{Depth, WindAngle, WindSpeed, Speed, Trip, Total, Logs, Speeds, Water, Lamp, Latitude, Longitude, Ground, Course, Time, Date, Pilot, Key, Heading, Variation, Turn}
-use Rattle.message.specs.declared.Verdict.TheVariants.{InRange}
 use Rattle.message.specs.Fields.{kind_of, command_of, fields_of}
 use Rattle.message.specs.Range.{range_of}
 use Rattle.message.specs.Reading.{byte}
 use Rattle.message.specs.Spelling.{bytes_of}
 use Rattle.message.specs.Table.{find_of}
-use Rattle.from_fields.specs.declared.Naming.TheVariants.{Named}
 use Rattle.from_fields.specs.Numbers.{AllFit, field_bytes, fields_bytes, numbers_of}
 use Rattle.from_fields.specs.Naming.{count_of, flags_of, message_of, bad_flag, named_as, named_of}
 use Rattle.from_fields.proofs.Each.{each_length}
 use Rattle.roundtrip_laws.proofs.Rows.{finds}
 use Rattle.seatalk.proofs.Fits.{fields_fit}
+use Rattle.message.specs.declared.Row.{Row}
 
 numbers_back : (zs : List ℤ) → AllFit zs → numbers_of (fields_bytes zs) ≡ zs
 numbers_back [] fits = refl
@@ -46,7 +45,7 @@ as_told false = refl
 record NamedAs (m : Message) : Type 0 where
   command : command_of m ≡ byte (bytes_of m) 0
   count : length (fields_of m) ≡ count_of (kind_of m)
-  flags : bad_flag (flags_of (kind_of m)) (fields_of m) ≡ 0
+  flags : bad_flag (flags_of (kind_of m)) (fields_of m) ≡ None
   message : message_of (kind_of m) (fields_of m) ≡ m
 
 named_as_lem : (m : Message) → NamedAs m
@@ -73,12 +72,12 @@ named_as_lem (Heading halves reference locked) = record { command = refl; count 
 named_as_lem (Variation east) = record { command = refl; count = refl; flags = refl; message = refl }
 named_as_lem (Turn degrees right rudder) = record { command = refl; count = refl; flags = rw (a_flag right); message = rw (as_told right) }
 
-pub named_back : (m : Message) → range_of m ≡ InRange → named_of (command_of m) (fields_bytes (fields_of m)) ≡ Named m
+pub named_back : (m : Message) → range_of m ≡ (Ok tt) → named_of (command_of m) (fields_bytes (fields_of m)) ≡ Ok m
 unfolding named_of
 named_back m r =
     let k = named_as_lem m in
     let long : length (fields_bytes (fields_of m)) ≡ 4 * count_of (kind_of m) = each_length field_bytes 4 (λ z. refl) (fields_of m) ∙ ap (λ (n : ℕ). 4 * n) k.count in
     let found : find_of (command_of m) ≡ _ = ap find_of k.command ∙ finds m in
-    ap (λ (l : Lookup). named_as l (fields_bytes (fields_of m))) found
+    ap (λ (l : Option Row). named_as l (fields_bytes (fields_of m))) found
     ∙ rw (eq-eqb (length (fields_bytes (fields_of m))) (4 * count_of (kind_of m)) long, numbers_back (fields_of m) (fields_fit m r), k.flags)
-    (ap Named k.message)
+    (ap Ok k.message)

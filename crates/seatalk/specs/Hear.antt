@@ -1,5 +1,5 @@
 -- One symbol heard, with the listener's state in 18 lent bytes (rules 11.2, 11.3).
-use Rattle.std.specs.Prelude.{ℕ, ◌<◌, ◌≡◌, cond, List, ◌∷◌, ◌++◌, leb, ltb, eqb, ℤ, pos, length, get_or, set, drop}
+use Rattle.std.specs.Prelude.{ℕ, ◌<◌, ◌≡◌, cond, List, ◌∷◌, ◌++◌, leb, ltb, eqb, ℤ, pos, length, get_or, set, drop, Result, Ok, Err}
 use Rattle.datagram.specs.declared.Refusal.{Refusal}
 use Rattle.datagram.specs.Refusals.{symbol_above, not_sound, no_room}
 use Rattle.listener.specs.declared.Listener.{Listener}
@@ -7,8 +7,6 @@ use Rattle.listener.specs.declared.Heard.{Heard}
 use Rattle.listener.specs.declared.Answer.{Answer}
 use Rattle.listener.specs.declared.Answer.TheVariants as answer
 use Rattle.listener.specs.Step.{hear_of}
-use Rattle.seatalk.specs.declared.hear.Numbered.{Numbered}
-use Rattle.seatalk.specs.declared.hear.Numbered.TheVariants.{Number, Refused}
 use Rattle.seatalk.specs.Returned.{code_of}
 
 -- what the call returns, and what the lent state and result hold afterwards
@@ -37,22 +35,22 @@ pub record Longer (byte : ℕ) (l : Listener) (state : List ℕ) : Type 0 where
   pub bytes : state_of l ≡ set (set state l.held byte) 0 l.held
 
 -- the answers by number (rules 11.2)
-abbrev pub number_of : Answer → Numbered
-number_of answer.Opened = Number 0
-number_of answer.Cancelled = Number 1
-number_of answer.Stray = Number 2
-number_of answer.Kept = Number 3
-number_of answer.HandedOut = Number 4
-number_of (answer.Refused r) = Refused r
+abbrev pub number_of : Answer → Result ℕ Refusal
+number_of answer.Opened = Ok 0
+number_of answer.Cancelled = Ok 1
+number_of answer.Stray = Ok 2
+number_of answer.Kept = Ok 3
+number_of answer.HandedOut = Ok 4
+number_of (answer.Refused r) = Err r
 
 -- a result's bytes: the answer, the number of bytes handed out, and these bytes with zeros past them
 abbrev pub result_of : ℕ → Heard → List ℕ
 result_of number h = number ∷ h.count ∷ h.bytes
 
 -- the next state and 20 bytes of result, or the refusal; 8 comes last
-abbrev pub answered : Numbered → Heard → List ℕ → List ℕ → Returned
-answered (Refused r) h state result = refused r state result
-answered (Number n) h state result =
+abbrev pub answered : Result ℕ Refusal → Heard → List ℕ → List ℕ → Returned
+answered (Err r) h state result = refused r state result
+answered (Ok n) h state result =
     cond (leb 20 (length result))
     (returned (pos 20) (state_of h.listener) (result_of n h ++ drop 20 result))
     (refused no_room state result)

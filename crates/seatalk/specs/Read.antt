@@ -1,16 +1,16 @@
 -- Any bytes read as the fields of a message (rules 11.4).
-use Rattle.std.specs.Prelude.{ℕ, ◌*◌, ◌≡◌, List, ◌++◌, ℤ, length, take, drop}
-use Rattle.message.specs.declared.Reading.{Reading}
-use Rattle.message.specs.declared.Reading.TheVariants.{Read, Refused}
+use Rattle.std.specs.Prelude.{ℕ, ◌*◌, ◌≡◌, List, ◌++◌, ℤ, length, take, drop, Result, Ok, Err}
 use Rattle.message.specs.Fields.{fields_of}
 use Rattle.message.specs.Reading.{read_of}
 use Rattle.from_fields.specs.Numbers.{fields_bytes}
 use Rattle.seatalk.specs.Returned.{Returned, refused, stored_result}
+use Rattle.datagram.specs.declared.Refusal.{Refusal}
+use Rattle.message.specs.declared.Message.{Message}
 
 -- the fields in table order, 4 bytes each, or the refusal; 8 comes last
-abbrev pub read_returned : Reading → List ℕ → Returned
-read_returned (Read m) result = stored_result (fields_bytes (fields_of m)) result
-read_returned (Refused r) result = refused r result
+abbrev pub read_returned : Result Message Refusal → List ℕ → Returned
+read_returned (Ok m) result = stored_result (fields_bytes (fields_of m)) result
+read_returned (Err r) result = refused r result
 
 unfoldable pub read_call : List ℕ → List ℕ → Returned
 read_call bytes result = read_returned (read_of bytes) result

@@ -1,30 +1,25 @@
 // One symbol heard, with the listener's state in lent bytes.
 ghost use Rattle.std.specs.Prelude.{◌≡◌, ◌++◌, ◌≤◌, length, drop};
 ghost use Rattle.listener.specs.Step.{hear_of};
+ghost use Rattle.seatalk.specs.Returned.{told};
 ghost use Rattle.seatalk.specs.Hear.{returned, state_of, Longer, listener_of, number_of, result_of, answered, hear_call};
 
-use crate::{code_of, put};
+use crate::put;
 use datagram::Refusal;
 use datagram::refusals::{NO_ROOM, NOT_SOUND, SYMBOL_ABOVE};
 use listener::{Answer, Heard, Listener};
 
 // An answer by its number (rules 11.2), or the refusal.
-#[derive(Clone, Copy)]
-pub enum Numbered {
-    Number(u8),
-    Refused(Refusal),
-}
-
-fn number_of(answer: Answer) -> Numbered
+fn number_of(answer: Answer) -> Result<u8, Refusal>
     ensures { result ≡ number_of answer }
 {
     match answer {
-        Answer::Opened => Numbered::Number(0),
-        Answer::Cancelled => Numbered::Number(1),
-        Answer::Stray => Numbered::Number(2),
-        Answer::Kept => Numbered::Number(3),
-        Answer::HandedOut => Numbered::Number(4),
-        Answer::Refused(r) => Numbered::Refused(r),
+        Answer::Opened => Ok(0),
+        Answer::Cancelled => Ok(1),
+        Answer::Stray => Ok(2),
+        Answer::Kept => Ok(3),
+        Answer::HandedOut => Ok(4),
+        Answer::Refused(r) => Err(r),
     }
 }
 
@@ -36,7 +31,7 @@ fn listener_of(state: &[u8]) -> Listener
     let mut bytes = [0u8; 17];
     put(&mut bytes, 0, &state[1..]);
     Listener {
-        bytes: bytes,
+        bytes,
         held: state[0],
     }
 }
@@ -65,44 +60,37 @@ fn put_next(number: u8, byte: u8, l: Listener, state: &mut [u8])
     requires { (length state.old ≡ 18) × (number ≡ 3 → Longer byte l state.old) }
     ensures { state.new ≡ state_of l }
 {
-    let held = l.held;
     if number == 3 {
-        state[held as usize] = byte;
-        state[0] = held;
+        state[l.held as usize] = byte;
+        state[0] = l.held;
     } else {
         put_state(l, state);
     }
 }
 
 // Stores the next state and the result, where the listener refused nothing and there is room.
-fn answer(h: Heard, symbol: u16, state: &mut [u8], res: &mut [u8]) -> i32
+fn answer(h: Heard, symbol: u16, state: &mut [u8], res: &mut [u8]) -> Result<u8, Refusal>
     requires { (length state.old ≡ 18) × (h ≡ hear_of (listener_of state.old) symbol) }
-    ensures { returned result state.new res.new ≡ answered (number_of h.answer) h state.old res.old }
+    ensures { returned (told result) state.new res.new ≡ answered (number_of h.answer) h state.old res.old }
 {
-    let answer = h.answer;
-    match number_of(answer) {
-        Numbered::Refused(r) => code_of(r),
-        Numbered::Number(number) => {
-            if res.len() < 20 {
-                return code_of(NO_ROOM);
-            }
-            let next = h.listener;
-            put_next(number, (symbol % 256) as u8, next, state);
-            put_result(number, h, res);
-            20
-        }
+    let number = number_of(h.answer)?;
+    if res.len() < 20 {
+        return Err(NO_ROOM);
     }
+    put_next(number, (symbol % 256) as u8, h.listener, state);
+    put_result(number, h, res);
+    Ok(20)
 }
 
 #[tactic(auto, using(number::proofs::Signed::handed, crate::proofs::Heard::above, crate::proofs::Heard::other_length))]
-pub fn hear(state: &mut [u8], symbol: u32, res: &mut [u8]) -> i32
-    ensures { returned result state.new res.new ≡ hear_call state.old symbol res.old }
+pub fn hear(state: &mut [u8], symbol: u32, res: &mut [u8]) -> Result<u8, Refusal>
+    ensures { returned (told result) state.new res.new ≡ hear_call state.old symbol res.old }
 {
     if 511 < symbol {
-        return code_of(SYMBOL_ABOVE);
+        return Err(SYMBOL_ABOVE);
     }
     if state.len() != 18 {
-        return code_of(NOT_SOUND);
+        return Err(NOT_SOUND);
     }
     let h = listener::hear(listener_of(state), symbol as u16);
     answer(h, symbol as u16, state, res)

@@ -10,7 +10,7 @@ ghost use Rattle.std.specs.Prelude.{◌≡◌, ◌+◌, ◌≤◌, length};
 ghost use Rattle.std.proofs.Math.Seq.{paste};
 ghost use Rattle.std.proofs.lemmas.List.Edits.{sets};
 ghost use Rattle.number.specs.Word.{long_bytes};
-ghost use Rattle.seatalk.specs.Returned.{returned, code_of};
+ghost use Rattle.seatalk.specs.Returned.{returned, told, code_of};
 ghost use Rattle.seatalk.specs.Hear as heard;
 ghost use Rattle.seatalk.specs.Read.{read_call};
 ghost use Rattle.seatalk.specs.Record.{record_call};
@@ -23,7 +23,7 @@ use datagram::Refusal;
 pub extern "C" fn seatalk_hear(state: &mut [u8], symbol: u32, res: &mut [u8]) -> i32
     ensures { heard.returned result state.new res.new ≡ heard.hear_call state.old symbol res.old }
 {
-    hear::hear(state, symbol, res)
+    told(hear::hear(state, symbol, res))
 }
 
 // A datagram's fields, 4 bytes each; refusal 3, 4, 5, 6, 7 or 8.
@@ -31,7 +31,7 @@ pub extern "C" fn seatalk_hear(state: &mut [u8], symbol: u32, res: &mut [u8]) ->
 pub extern "C" fn seatalk_read(bytes: &[u8], res: &mut [u8]) -> i32
     ensures { returned result res.new ≡ read_call bytes.now res.old }
 {
-    read::read(bytes, res)
+    told(read::read(bytes, res))
 }
 
 // A message's symbols, 2 bytes each; refusal 4, 5, 7 or 8.
@@ -39,7 +39,7 @@ pub extern "C" fn seatalk_read(bytes: &[u8], res: &mut [u8]) -> i32
 pub extern "C" fn seatalk_write(command: u32, fields: &[u8], res: &mut [u8]) -> i32
     ensures { returned result res.new ≡ write_call command fields.now res.old }
 {
-    write::write(command, fields, res)
+    told(write::write(command, fields, res))
 }
 
 // A record's eight bytes from a time and a symbol; refusal 1 or 8.
@@ -47,7 +47,17 @@ pub extern "C" fn seatalk_write(command: u32, fields: &[u8], res: &mut [u8]) -> 
 pub extern "C" fn seatalk_record(time: u32, symbol: u32, res: &mut [u8]) -> i32
     ensures { returned result res.new ≡ record_call time symbol res.old }
 {
-    record::record(time, symbol, res)
+    told(record::record(time, symbol, res))
+}
+
+// What a call returns: how many bytes it stored, or the refusal's code.
+fn told(stored: Result<u8, Refusal>) -> i32
+    ensures { result ≡ told stored }
+{
+    match stored {
+        Ok(n) => i32::from(n),
+        Err(r) => code_of(r),
+    }
 }
 
 // Minus the number and 256 times the place.
@@ -71,8 +81,9 @@ fn put_long(lent: &mut [u8], at: usize, n: u32)
     requires { at + 4 ≤ length lent.old }
     ensures { lent.new ≡ sets lent.old at (long_bytes n) }
 {
-    lent[at] = (n % 256) as u8;
-    lent[at + 1] = (n / 256 % 256) as u8;
-    lent[at + 2] = (n / 65536 % 256) as u8;
-    lent[at + 3] = (n / 16777216 % 256) as u8;
+    let [a, b, c, d] = n.to_le_bytes();
+    lent[at] = a;
+    lent[at + 1] = b;
+    lent[at + 2] = c;
+    lent[at + 3] = d;
 }

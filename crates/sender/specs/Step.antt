@@ -1,5 +1,5 @@
 -- What an offer, a poll and an echo do (rules 7.2, 7.4, 7.5).
-use Rattle.std.specs.Prelude.{ℕ, ◌+◌, ◌-◌, ◌%◌, ◌^◌, cond, ◌&&◌, List, [], ◌==◌, nat_le, nat_lt}
+use Rattle.std.specs.Prelude.{ℕ, ◌+◌, ◌-◌, ◌%◌, ◌^◌, cond, ◌&&◌, List, [], ◌==◌, nat_le, nat_lt, Ok, Err}
 use Rattle.datagram.specs.declared.Refusal.{Refusal}
 use Rattle.datagram.specs.Refusals.{symbol_above, not_sound, not_whole, bad_wait_or_limit}
 use Rattle.datagram.specs.Whole.{whole}
@@ -10,7 +10,6 @@ use Rattle.sender.specs.declared.Sender.{Sender}
 use Rattle.sender.specs.declared.Answer.{Answer}
 use Rattle.sender.specs.declared.Answer.TheVariants.{Wait, Send, Listening, Done, GaveUp, WaitingAgain, Ignored, Refused}
 use Rattle.sender.specs.declared.Outcome.{Outcome}
-use Rattle.sender.specs.declared.Verdict.TheVariants as verdict
 use Rattle.sender.specs.declared.Offered.{Offered}
 use Rattle.sender.specs.State.{sound, length_of, symbol_at}
 
@@ -23,7 +22,7 @@ abbrev pub zero_sender : Sender
 zero_sender = record { phase = phase.Waiting; datagram = pad_to 18 []; position = 0; wait = 0; limit = 0; failures = 0 }
 
 abbrev pub refused_offer : Refusal → Offered
-refused_offer r = record { verdict = verdict.Refused r; sender = zero_sender }
+refused_offer r = record { verdict = Err r; sender = zero_sender }
 
 abbrev pub wait_of : ℕ → ℕ
 wait_of wait = cond (wait == 0) default_wait wait
@@ -38,7 +37,7 @@ unfoldable pub offer_of : List ℕ → ℕ → ℕ → Offered
 offer_of bytes wait limit =
     cond (whole bytes)
     (cond ((nat_le 10 (wait_of wait) && nat_le (wait_of wait) 255) && (nat_le 1 limit && nat_le limit 50))
-    (record { verdict = verdict.Accepted; sender = offered bytes (wait_of wait) limit })
+    (record { verdict = Ok tt; sender = offered bytes (wait_of wait) limit })
     (refused_offer bad_wait_or_limit))
     (refused_offer not_whole)
 

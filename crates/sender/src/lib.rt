@@ -4,7 +4,7 @@
 ghost use Rattle.std.specs.Prelude.{◌≡◌, ◌<◌, ◌≤◌, length};
 ghost use Rattle.datagram.specs.Padding.{pad_to};
 ghost use Rattle.sender.specs.State.{sound, phase_sound, length_of, symbol_at};
-ghost use Rattle.sender.specs.Step.{offer_of, poll_of, echo_of, outcome, refused_offer, moved_to, polled, heard_right, heard_wrong};
+ghost use Rattle.sender.specs.Step.{offer_of, poll_of, echo_of, outcome, refused_offer, polled, heard_right, heard_wrong};
 
 use datagram::Refusal;
 use datagram::refusals::{BAD_WAIT_OR_LIMIT, NOT_SOUND, NOT_WHOLE, SYMBOL_ABOVE};
@@ -58,47 +58,32 @@ pub struct Outcome {
     pub sender: Sender,
 }
 
-// Whether an offer was accepted.
-#[derive(Clone, Copy)]
-pub enum Verdict {
-    Accepted,
-    Refused(Refusal),
-}
-
-// An offer's outcome: the sender, all zero where the offer was refused.
+// An offer's outcome: accepted or refused, and the sender. A struct, since a refused offer promises its sender too: all zero.
 #[derive(Clone, Copy)]
 pub struct Offered {
-    pub verdict: Verdict,
+    pub verdict: Result<(), Refusal>,
     pub sender: Sender,
 }
 
 // Offers a whole datagram, with a wait of 10 to 255 bit times (0 for the default) and a limit of 1 to 50 attempts.
+#[tactic(auto, using(datagram::proofs::Whole::declares), unfolding(crate::specs::Step::offer_of))]
 pub fn offer(bytes: &[u8], wait: u32, limit: u32) -> Offered
     ensures { result ≡ offer_of bytes.now wait limit }
 {
     if !datagram::is_whole(bytes) {
         return refused_offer(NOT_WHOLE);
     }
-    let waits = if wait == 0 { DEFAULT_WAIT as u32 } else { wait };
-    if waits < 10 {
-        return refused_offer(BAD_WAIT_OR_LIMIT);
-    }
-    if 255 < waits {
-        return refused_offer(BAD_WAIT_OR_LIMIT);
-    }
-    if limit < 1 {
-        return refused_offer(BAD_WAIT_OR_LIMIT);
-    }
-    if 50 < limit {
+    let wait = if wait == 0 { DEFAULT_WAIT as u32 } else { wait };
+    if wait < 10 || 255 < wait || limit < 1 || 50 < limit {
         return refused_offer(BAD_WAIT_OR_LIMIT);
     }
     Offered {
-        verdict: Verdict::Accepted,
+        verdict: Ok(()),
         sender: Sender {
             phase: Phase::Waiting,
             datagram: padded(bytes),
             position: 0,
-            wait: waits as u8,
+            wait: wait as u8,
             limit: limit as u8,
             failures: 0,
         },
@@ -106,15 +91,15 @@ pub fn offer(bytes: &[u8], wait: u32, limit: u32) -> Offered
 }
 
 // Asks what to do, at this time with the bus last active at `last`, both on a bit-time counter that wraps.
+#[tactic(auto, unfolding(crate::specs::Step::poll_of))]
 pub fn poll(s: Sender, time: u32, last: u32) -> Outcome
     ensures { result ≡ poll_of s time last }
 {
     if !is_sound(s) {
         return answered(Answer::Refused(NOT_SOUND), s);
     }
-    let phase = s.phase;
-    match phase {
-        Phase::Waiting => started(s, std::num::wrapping_sub_u32(time, last)),
+    match s.phase {
+        Phase::Waiting => started(s, time.wrapping_sub(last)),
         Phase::Awaiting => answered(Answer::Listening, s),
         Phase::Done => answered(Answer::Done, s),
         Phase::GaveUp => answered(Answer::GaveUp, s),
@@ -122,6 +107,7 @@ pub fn poll(s: Sender, time: u32, last: u32) -> Outcome
 }
 
 // Tells the sender a symbol that was heard while it awaits its echo.
+#[tactic(auto, using(crate::proofs::State::awaits), unfolding(crate::specs::Step::echo_of))]
 pub fn echo(s: Sender, symbol: u16) -> Outcome
     ensures { result ≡ echo_of s symbol }
 {
@@ -131,70 +117,33 @@ pub fn echo(s: Sender, symbol: u16) -> Outcome
     if !is_sound(s) {
         return answered(Answer::Refused(NOT_SOUND), s);
     }
-    let phase = s.phase;
-    match phase {
-        Phase::Waiting => answered(Answer::Ignored, s),
-        Phase::Awaiting => {
-            if symbol == symbol_at(s, s.position) {
-                heard_right(s)
-            } else {
-                heard_wrong(s)
-            }
-        }
-        Phase::Done => answered(Answer::Ignored, s),
-        Phase::GaveUp => answered(Answer::Ignored, s),
+    match s.phase {
+        Phase::Awaiting if symbol == symbol_at(s, s.position) => heard_right(s),
+        Phase::Awaiting => heard_wrong(s),
+        Phase::Waiting | Phase::Done | Phase::GaveUp => answered(Answer::Ignored, s),
     }
 }
 
 // Whether the state is sound.
+#[tactic(auto, using(crate::proofs::State::sound_is))]
 pub fn is_sound(s: Sender) -> bool
     ensures { result ≡ sound s }
 {
-    let n = length_of(s);
-    if s.wait < 10 {
-        return false;
-    }
-    if s.limit < 1 {
-        return false;
-    }
-    if 50 < s.limit {
-        return false;
-    }
-    if !datagram::zeros_from(&s.datagram, n as usize) {
-        return false;
-    }
-    let phase = s.phase;
-    phase_sound(phase, s.position, n, s.failures, s.limit)
+    10 <= s.wait
+        && 1 <= s.limit
+        && s.limit <= 50
+        && datagram::zeros_from(&s.datagram, length_of(s) as usize)
+        && phase_sound(s)
 }
 
-fn phase_sound(phase: Phase, position: u8, size: u8, failures: u8, limit: u8) -> bool
-    ensures { result ≡ phase_sound phase position size failures limit }
+fn phase_sound(s: Sender) -> bool
+    ensures { result ≡ phase_sound s.phase s.position (length_of s) s.failures s.limit }
 {
-    match phase {
-        Phase::Waiting => {
-            if position == 0 {
-                return failures < limit;
-            }
-            false
-        }
-        Phase::Awaiting => {
-            if position < size {
-                return failures < limit;
-            }
-            false
-        }
-        Phase::Done => {
-            if position == size {
-                return failures < limit;
-            }
-            false
-        }
-        Phase::GaveUp => {
-            if position == 0 {
-                return failures == limit;
-            }
-            false
-        }
+    match s.phase {
+        Phase::Waiting => s.position == 0 && s.failures < s.limit,
+        Phase::Awaiting => s.position < length_of(s) && s.failures < s.limit,
+        Phase::Done => s.position == length_of(s) && s.failures < s.limit,
+        Phase::GaveUp => s.position == 0 && s.failures == s.limit,
     }
 }
 
@@ -209,31 +158,28 @@ fn length_of(s: Sender) -> u8
 fn symbol_at(s: Sender, position: u8) -> u16
     ensures { position < length_of s → result ≡ symbol_at s position }
 {
-    let i = position as usize;
-    if i == 0 {
-        return 256 + s.datagram[0] as u16;
+    let byte = s.datagram.get(position as usize).copied().unwrap_or(0);
+    if position == 0 {
+        256 + byte as u16
+    } else {
+        byte as u16
     }
-    if i < 18 {
-        return s.datagram[i] as u16;
-    }
-    0
 }
 
+// Kept, since the literal takes four lines at each of its calls.
 fn answered(answer: Answer, sender: Sender) -> Outcome
     ensures { result ≡ outcome answer sender }
 {
-    Outcome {
-        answer: answer,
-        sender: sender,
-    }
+    Outcome { answer, sender }
 }
 
 // A refused offer: the refusal, and the all-zero sender, which is not sound.
+#[tactic(auto, unfolding(datagram::specs::Padding::pad_to))]
 pub fn refused_offer(refusal: Refusal) -> Offered
     ensures { result ≡ refused_offer refusal }
 {
     Offered {
-        verdict: Verdict::Refused(refusal),
+        verdict: Err(refusal),
         sender: Sender {
             phase: Phase::Waiting,
             datagram: [0; 18],
@@ -255,33 +201,20 @@ fn padded(bytes: &[u8]) -> [u8; 18]
     out
 }
 
-// The sender in another phase, at another position, with other failures.
-fn moved(s: Sender, phase: Phase, position: u8, failures: u8) -> Sender
-    ensures { result ≡ moved_to s phase position failures }
-{
-    let datagram = s.datagram;
-    Sender {
-        phase: phase,
-        datagram: datagram,
-        position: position,
-        wait: s.wait,
-        limit: s.limit,
-        failures: failures,
-    }
-}
-
 // A poll while waiting: the command symbol once the wait is over.
 fn started(s: Sender, silence: u32) -> Outcome
     ensures { result ≡ polled Phase.Waiting s silence }
 {
     let wait = s.wait as u32;
-    if wait <= silence {
-        let next = moved(s, Phase::Awaiting, 0, s.failures);
-        answered(Answer::Send(symbol_at(s, 0)), next)
-    } else {
-        let left = wait - silence;
-        answered(Answer::Wait(left), s)
+    if silence < wait {
+        return answered(Answer::Wait(wait - silence), s);
     }
+    let next = Sender {
+        phase: Phase::Awaiting,
+        position: 0,
+        ..s
+    };
+    answered(Answer::Send(symbol_at(s, 0)), next)
 }
 
 // The awaited symbol was heard.
@@ -289,16 +222,21 @@ fn heard_right(s: Sender) -> Outcome
     requires { s.position < length_of s }
     ensures { result ≡ heard_right s }
 {
-    let next = s.position + 1;
-    if next == length_of(s) {
-        answered(Answer::Done, moved(s, Phase::Done, next, s.failures))
-    } else {
-        let sent = symbol_at(s, next);
-        answered(
-            Answer::Send(sent),
-            moved(s, Phase::Awaiting, next, s.failures),
-        )
+    let next = Sender {
+        phase: Phase::Awaiting,
+        position: s.position + 1,
+        ..s
+    };
+    if next.position == length_of(s) {
+        return answered(
+            Answer::Done,
+            Sender {
+                phase: Phase::Done,
+                ..next
+            },
+        );
     }
+    answered(Answer::Send(symbol_at(s, next.position)), next)
 }
 
 // Another symbol was heard: the whole datagram is sent again, or the sender gives up.
@@ -307,9 +245,20 @@ fn heard_wrong(s: Sender) -> Outcome
     ensures { result ≡ heard_wrong s }
 {
     let failures = s.failures + 1;
+    let next = Sender {
+        phase: Phase::Waiting,
+        position: 0,
+        failures,
+        ..s
+    };
     if failures == s.limit {
-        answered(Answer::GaveUp, moved(s, Phase::GaveUp, 0, failures))
-    } else {
-        answered(Answer::WaitingAgain, moved(s, Phase::Waiting, 0, failures))
+        return answered(
+            Answer::GaveUp,
+            Sender {
+                phase: Phase::GaveUp,
+                ..next
+            },
+        );
     }
+    answered(Answer::WaitingAgain, next)
 }

@@ -14,6 +14,7 @@
 #![tactic(auto)]
 
 mod calls;
+mod command;
 mod numbers;
 mod output;
 mod script;
@@ -21,26 +22,27 @@ mod text;
 
 ghost use Rattle.std.specs.Prelude.{◌≤◌, length};
 
+use crate::output::Output;
+use crate::script::Script;
 use std::io::Read;
 
 fn main(rt: HostRuntime) {
     let mut input = [0u8; 65536];
-    let mut out = [0u8; 65536];
-    let mut s = script::begin();
+    let mut out = Output::new(&rt);
+    let mut script = Script::new();
     // As many reads as a 64-bit counter can count: nothing else says that the input ends.
-    let mut left: u64 = 18446744073709551615;
-    while 0 < left {
+    for _ in 0..u64::MAX {
         let n = read_full(&rt, &mut input);
         if n == 0 {
             break;
         }
-        s = script::run(&rt, s, &input[..n], &mut out);
-        left -= 1;
+        script.run(&input[..n], &mut out);
     }
-    output::write_out(&rt, &out, s.filled);
+    out.flush();
 }
 
 // Reads until the buffer is full, the input ends or a read fails, and gives how many bytes that were.
+// A loop, since read_to_end takes a heap and read_exact tells no count.
 fn read_full(rt: &HostRuntime, buf: &mut [u8]) -> usize
     ensures { result ≤ length buf.new }
 {

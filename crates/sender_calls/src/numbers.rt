@@ -1,5 +1,5 @@
 // The numbers of a line, as they are read.
-ghost use Rattle.std.specs.Prelude.{◌≤◌};
+ghost use Rattle.std.specs.Prelude.{◌≡◌, ◌<◌, ◌≤◌, true, IfSome};
 
 #[derive(Clone, Copy)]
 pub struct Numbers {
@@ -11,54 +11,60 @@ pub struct Numbers {
     // the last, decimal and in base 16
     pub last: u32,
     pub hex: u16,
+    // whether the character before was a digit
     pub reading: bool,
+    ghost within: { count ≤ 24 },
+    ghost begun: { reading ≡ true → 0 < count },
 }
 
-// With one more character of the line; a new line starts with none.
-pub fn with(n: Numbers, c: u8) -> Numbers {
-    let digit = digit_of(c);
-    let mut m = n;
-    m.reading = digit < 16;
-    if c == b'\n' {
-        m.count = 0;
-    }
-    if 16 <= digit {
-        return m;
-    }
-    if !n.reading {
-        m.before = n.last;
-        m.last = 0;
-        m.hex = 0;
-        if n.count < 24 {
-            m.count = n.count + 1;
+impl Numbers {
+    pub fn new() -> Self {
+        Numbers {
+            bytes: [0; 24],
+            count: 0,
+            before: 0,
+            last: 0,
+            hex: 0,
+            reading: false,
         }
     }
-    m.last = (((m.last % 1000000000) as u64 * 10 + digit as u64) % 4294967296) as u32;
-    m.hex = m.hex % 4096 * 16 + digit as u16;
-    let count = m.count;
-    if 0 < count {
-        if count <= 24 {
-            m.bytes[count - 1] = (m.hex % 256) as u8;
+
+    // One more character of the line; a new line starts with none.
+    pub fn read(&mut self, c: u8) {
+        let Some(digit) = digit_of(c) else {
+            self.reading = false;
+            if c == b'\n' {
+                self.count = 0;
+            }
+            return;
+        };
+        if !self.reading {
+            self.before = self.last;
+            self.last = 0;
+            self.hex = 0;
+            self.count = (self.count + 1).min(24);
+            self.reading = true;
         }
+        self.last = (self.last % 1000000000)
+            .wrapping_mul(10)
+            .wrapping_add(u32::from(digit));
+        self.hex = self.hex % 4096 * 16 + u16::from(digit);
+        self.bytes[self.count - 1] = (self.hex % 256) as u8;
     }
-    m
+
+    // All but the last two.
+    pub fn offered(&self) -> &[u8] {
+        &self.bytes[..self.count.saturating_sub(2)]
+    }
 }
 
-// A digit of base 16, or 16 for any other character.
-fn digit_of(c: u8) -> u8
-    ensures { result ≤ 16 }
+// A digit of base 16.
+fn digit_of(c: u8) -> Option<u8>
+    ensures { IfSome result (λ d. d < 16) }
 {
-    if c < b'0' {
-        return 16;
+    match c {
+        b'0'..=b'9' => Some(c - b'0'),
+        b'A'..=b'F' => Some(c - b'A' + 10),
+        _ => None,
     }
-    if c <= b'9' {
-        return c - b'0';
-    }
-    if c < b'A' {
-        return 16;
-    }
-    if b'F' < c {
-        return 16;
-    }
-    c - b'A' + 10
 }

@@ -1,68 +1,51 @@
-// What is written is collected in a buffer. Each function takes how far that is filled, and gives how far it is then.
+// What is written is collected in a buffer.
+ghost use Rattle.std.specs.Prelude.{◌≡◌, ◌≤◌};
+
+use std::fmt;
 use std::io::Write;
 
-const DIGITS: [u8; 16] = *b"0123456789ABCDEF";
+const ROOM: usize = 65536;
 
-// A byte more; a full buffer is written first.
-pub fn put(rt: &HostRuntime, b: u8, out: &mut [u8], filled: usize) -> usize {
-    if filled < out.len() {
-        out[filled] = b;
-        return filled + 1;
-    }
-    write_out(rt, out, filled);
-    if 0 < out.len() {
-        out[0] = b;
-        return 1;
-    }
-    0
+#[derive(Drop)]
+pub struct Output<'a> {
+    rt: &'a HostRuntime,
+    buffer: [u8; ROOM],
+    filled: usize,
+    ghost within: { filled ≤ 65536 },
 }
 
-// A failed write is passed over: the rest of what it had to write is lost.
-pub fn write_out(rt: &HostRuntime, out: &[u8], filled: usize) {
-    if filled <= out.len() {
-        let _ = Write::write_all(&mut rt.stdout(), &out[0..filled]);
+impl<'a> Output<'a> {
+    pub fn new(rt: &'a HostRuntime) -> Self {
+        Output {
+            rt,
+            buffer: [0; ROOM],
+            filled: 0,
+        }
+    }
+
+    // A byte more; a full buffer is written first.
+    pub fn put(&mut self, b: u8) {
+        if self.filled == ROOM {
+            self.flush();
+        }
+        self.buffer[self.filled] = b;
+        self.filled += 1;
+    }
+
+    // A failed write is passed over: the rest of what it had to write is lost.
+    pub fn flush(&mut self)
+        ensures { self.new.filled ≡ 0 }
+    {
+        let _ = Write::write_all(&mut self.rt.stdout(), &self.buffer[..self.filled]);
+        self.filled = 0;
     }
 }
 
-pub fn words(rt: &HostRuntime, text: &[u8], out: &mut [u8], filled: usize) -> usize {
-    let mut at = filled;
-    let mut i = 0;
-    while i < text.len() {
-        at = put(rt, text[i], out, at);
-        i += 1;
+impl<'a> fmt::Write for Output<'a> {
+    fn write_str(&mut self, s: &str) -> fmt::Result {
+        for b in s.as_bytes() {
+            self.put(*b);
+        }
+        Ok(())
     }
-    at
-}
-
-pub fn decimal(rt: &HostRuntime, n: u64, out: &mut [u8], filled: usize) -> usize {
-    let mut unit: u64 = 10000000000000000000;
-    while n < unit && 1 < unit {
-        unit /= 10;
-    }
-    let mut at = filled;
-    while 0 < unit {
-        at = put(rt, b'0' + (n / unit % 10) as u8, out, at);
-        unit /= 10;
-    }
-    at
-}
-
-// A byte as two digits of base 16, with a space before it.
-pub fn byte(rt: &HostRuntime, b: u8, out: &mut [u8], filled: usize) -> usize {
-    let text = [
-        b' ',
-        DIGITS[(b / 16 % 16) as usize],
-        DIGITS[(b % 16) as usize],
-    ];
-    words(rt, &text, out, filled)
-}
-
-// A symbol as three digits of base 16.
-pub fn symbol(rt: &HostRuntime, s: u16, out: &mut [u8], filled: usize) -> usize {
-    let text = [
-        DIGITS[(s / 256 % 16) as usize],
-        DIGITS[(s / 16 % 16) as usize],
-        DIGITS[(s % 16) as usize],
-    ];
-    words(rt, &text, out, filled)
 }

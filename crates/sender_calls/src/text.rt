@@ -1,108 +1,71 @@
 // What a command writes of the sender and of the answer.
-use crate::output::{byte, decimal, symbol, words};
-use sender::{Answer, Outcome, Phase, Sender};
+use crate::command::Command;
+use crate::output::Output;
+use sender::{Answer, Outcome, Sender};
+use std::fmt;
+use std::fmt::Write;
 
-pub fn shown(
-    rt: &HostRuntime,
-    command: u8,
-    outcome: Outcome,
-    out: &mut [u8],
-    filled: usize,
-) -> usize {
-    let s = outcome.sender;
-    let a = outcome.answer;
+pub fn show(command: Command, outcome: Outcome, out: &mut Output<'_>) -> fmt::Result {
+    let Outcome { answer, sender } = outcome;
     match command {
-        b'p' | b'e' | b'a' => answer(rt, a, b"ignored", out, filled),
-        b'o' | b'k' => answer(rt, a, b"accepted", out, filled),
-        b'j' => sent(rt, a, out, filled),
-        b'r' => place(rt, a, out, filled),
-        b's' => soundness(rt, s, out, filled),
-        b't' => terms(rt, s, out, filled),
-        b'w' => whole(rt, s, out, filled),
-        _ => filled,
+        Command::Poll | Command::Echo | Command::Answer => told(answer, "ignored", out),
+        Command::Offer | Command::Key => told(answer, "accepted", out),
+        Command::Just => just(answer, out),
+        Command::Refusal => place(answer, out),
+        Command::Sound => {
+            let sound = sender::is_sound(sender);
+            out.write_str(if sound { "sound" } else { "unsound" })
+        }
+        Command::Terms => terms(sender, out),
+        Command::Whole => whole(sender, out),
+        _ => Ok(()),
     }
 }
 
 // An offer that is not refused leaves the answer that nothing was done, which these words say.
-fn answer(rt: &HostRuntime, a: Answer, ignored: &[u8], out: &mut [u8], filled: usize) -> usize {
-    match a {
-        Answer::Wait(n) => {
-            let at = words(rt, b"wait ", out, filled);
-            decimal(rt, n as u64, out, at)
-        }
-        Answer::Send(s) => {
-            let at = words(rt, b"send ", out, filled);
-            symbol(rt, s, out, at)
-        }
-        Answer::Listening => words(rt, b"listening", out, filled),
-        Answer::Done => words(rt, b"done", out, filled),
-        Answer::GaveUp => words(rt, b"gave up", out, filled),
-        Answer::WaitingAgain => words(rt, b"waiting again", out, filled),
-        Answer::Ignored => words(rt, ignored, out, filled),
-        Answer::Refused(r) => {
-            let at = words(rt, b"refused ", out, filled);
-            decimal(rt, r.number as u64, out, at)
-        }
+fn told(answer: Answer, ignored: &str, out: &mut Output<'_>) -> fmt::Result {
+    match answer {
+        Answer::Wait(left) => write!(out, "wait {left}"),
+        Answer::Send(symbol) => write!(out, "send {symbol:03X}"),
+        Answer::Listening => out.write_str("listening"),
+        Answer::Done => out.write_str("done"),
+        Answer::GaveUp => out.write_str("gave up"),
+        Answer::WaitingAgain => out.write_str("waiting again"),
+        Answer::Ignored => out.write_str(ignored),
+        Answer::Refused(r) => write!(out, "refused {}", r.number),
     }
 }
 
-fn sent(rt: &HostRuntime, a: Answer, out: &mut [u8], filled: usize) -> usize {
-    match a {
-        Answer::Send(s) => symbol(rt, s, out, filled),
-        _ => filled,
+fn just(answer: Answer, out: &mut Output<'_>) -> fmt::Result {
+    match answer {
+        Answer::Send(symbol) => write!(out, "{symbol:03X}"),
+        _ => Ok(()),
     }
 }
 
-fn place(rt: &HostRuntime, a: Answer, out: &mut [u8], filled: usize) -> usize {
-    match a {
-        Answer::Refused(r) => {
-            let at = words(rt, b" at ", out, filled);
-            decimal(rt, r.place, out, at)
-        }
-        _ => filled,
+fn place(answer: Answer, out: &mut Output<'_>) -> fmt::Result {
+    match answer {
+        Answer::Refused(r) => write!(out, " at {}", r.place),
+        _ => Ok(()),
     }
-}
-
-fn soundness(rt: &HostRuntime, s: Sender, out: &mut [u8], filled: usize) -> usize {
-    if sender::is_sound(s) {
-        return words(rt, b"sound", out, filled);
-    }
-    words(rt, b"unsound", out, filled)
 }
 
 // The first four bytes of the datagram, the wait and the limit.
-fn terms(rt: &HostRuntime, s: Sender, out: &mut [u8], filled: usize) -> usize {
-    let datagram = s.datagram;
-    let bytes = [datagram[0], datagram[1], datagram[2], datagram[3]];
-    let first = all(rt, &bytes, out, filled);
-    let wait = words(rt, b", wait ", out, first);
-    let waits = decimal(rt, s.wait as u64, out, wait);
-    let limit = words(rt, b", limit ", out, waits);
-    decimal(rt, s.limit as u64, out, limit)
+fn terms(s: Sender, out: &mut Output<'_>) -> fmt::Result {
+    all(&s.datagram[..4], out)?;
+    write!(out, ", wait {}, limit {}", s.wait, s.limit)
 }
 
 // The 23 numbers that `{fields}` takes.
-fn whole(rt: &HostRuntime, s: Sender, out: &mut [u8], filled: usize) -> usize {
-    let phase = s.phase;
-    let number = match phase {
-        Phase::Waiting => 0,
-        Phase::Awaiting => 1,
-        Phase::Done => 2,
-        Phase::GaveUp => 3,
-    };
-    let datagram = s.datagram;
-    let ends = [s.position, s.wait, s.limit, s.failures];
-    let first = byte(rt, number, out, filled);
-    let bytes = all(rt, &datagram, out, first);
-    all(rt, &ends, out, bytes)
+fn whole(s: Sender, out: &mut Output<'_>) -> fmt::Result {
+    all(&[s.phase as u8], out)?;
+    all(&s.datagram, out)?;
+    all(&[s.position, s.wait, s.limit, s.failures], out)
 }
 
-fn all(rt: &HostRuntime, bytes: &[u8], out: &mut [u8], filled: usize) -> usize {
-    let mut at = filled;
-    let mut i = 0;
-    while i < bytes.len() {
-        at = byte(rt, bytes[i], out, at);
-        i += 1;
+fn all(bytes: &[u8], out: &mut Output<'_>) -> fmt::Result {
+    for b in bytes {
+        write!(out, " {b:02X}")?;
     }
-    at
+    Ok(())
 }

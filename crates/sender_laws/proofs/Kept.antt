@@ -2,36 +2,26 @@
 use mathlib.Core.Path.{◌≡◌, refl, ap, ◌∙◌}
 use mathlib.Core.Bool.{true}
 use mathlib.Core.List.{List, [], ◌∷◌}
-use Prim.Native.Nat.{◌+◌, ◌<◌}
+use Prim.Native.Nat.{◌+◌}
 use native.Mathlib.Omega.{arith}
-use borrow.Author.Tests.{lt-ltb, eq-eqb}
+use Rattle.std.proofs.lemmas.Bool.Decides.{nat_tests}
 use Rattle.sender.specs.declared.Phase.TheVariants as phase
 use Rattle.sender.specs.declared.Sender.{Sender}
 use Rattle.sender.specs.declared.Outcome.{Outcome}
-use Rattle.sender.specs.State.{sound, length_of}
+use Rattle.sender.specs.State.{sound}
+use Rattle.sender.proofs.State.{awaits}
 use Rattle.sender_laws.specs.Run.{Terms, terms_of, Call, called, after}
-use Rattle.sender_laws.proofs.Sound.{moved, waiting_left, awaits}
+use Rattle.sender_laws.proofs.Sound.{moved, waiting_left}
 use Rattle.sender_laws.proofs.Moves.{Move, stays, starts, goes_on, finishes, waits_again, gives_up, move}
 
 pub move_sound : {s : Sender} {c : Call} {o : Outcome} → Move s c o → sound s ≡ true → sound o.sender ≡ true
 move_sound (stays answer quiet unheard) h = h
-move_sound {s} (starts h e) also =
-    moved s phase.Awaiting 0 s.failures
-    (rw (lt-ltb 0 (length_of s) (omega arith), lt-ltb s.failures s.limit (waiting_left s h e))) h
+move_sound {s} (starts h e) also = let left = waiting_left s h e in moved s phase.Awaiting 0 s.failures (grind (arith, nat_tests)) h
 move_sound {s} (goes_on h e more) also =
-    let a = awaits s h e in
-    let next : s.position + 1 < length_of s = omega arith in
-    moved s phase.Awaiting (s.position + 1) s.failures
-    (rw (lt-ltb (s.position + 1) (length_of s) next, lt-ltb s.failures s.limit a.attempts_left)) h
-move_sound {s} (finishes h e end) also =
-    moved s phase.Done (s.position + 1) s.failures
-    (rw (eq-eqb (s.position + 1) (length_of s) end, lt-ltb s.failures s.limit (awaits s h e).attempts_left)) h
-move_sound {s} (waits_again h e more) also =
-    let a = awaits s h e in
-    let fewer : s.failures + 1 < s.limit = omega arith in
-    moved s phase.Waiting 0 (s.failures + 1) (rw (lt-ltb (s.failures + 1) s.limit fewer)) h
-move_sound {s} (gives_up h e all) also =
-    moved s phase.GaveUp 0 (s.failures + 1) (rw (eq-eqb (s.failures + 1) s.limit all)) h
+    let a = awaits s h e in moved s phase.Awaiting (s.position + 1) s.failures (grind (arith, nat_tests)) h
+move_sound {s} (finishes h e end) also = let a = awaits s h e in moved s phase.Done (s.position + 1) s.failures (grind (arith, nat_tests)) h
+move_sound {s} (waits_again h e more) also = let a = awaits s h e in moved s phase.Waiting 0 (s.failures + 1) (grind (arith, nat_tests)) h
+move_sound {s} (gives_up h e all) also = moved s phase.GaveUp 0 (s.failures + 1) (grind (arith, nat_tests)) h
 
 move_terms : {s : Sender} {c : Call} {o : Outcome} → Move s c o → terms_of o.sender ≡ terms_of s
 move_terms (stays answer quiet unheard) = refl

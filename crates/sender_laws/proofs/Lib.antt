@@ -1,4 +1,3 @@
-pub mod Choice
 pub mod Sound
 pub mod Moves
 pub mod Kept

@@ -13,7 +13,7 @@ use Rattle.datagram.specs.Padding.{pad_to}
 use Rattle.datagram.proofs.Padding.{get_d_pad, take_pad, drop_pad, zeros_pass}
 use Rattle.datagram.proofs.Whole.{declares}
 use Rattle.sender.specs.declared.Offered.{Offered}
-use Rattle.sender.specs.declared.Verdict.TheVariants as verdict
+use Rattle.std.proofs.Common.{Ok}
 use Rattle.sender.specs.State.{sound, length_of, bytes_of}
 use Rattle.sender.specs.Step.{wait_of, zero_sender, refused_offer, offered, offer_of}
 use Rattle.sender_laws.specs.Run.{Call, answers, sent, commands}
@@ -26,13 +26,13 @@ in_range wait limit = (leb 10 wait && leb wait 255) && (leb 1 limit && leb limit
 -- an offer is accepted for a whole datagram and a wait and a limit in range, or refused
 pub data Offer (bytes : List ℕ) (wait limit : ℕ) : Offered → Type 0 where
   accepted : whole bytes ≡ true → in_range (wait_of wait) limit ≡ true
-      → Offer bytes wait limit (record { verdict = verdict.Accepted; sender = offered bytes (wait_of wait) limit })
+      → Offer bytes wait limit (record { verdict = Ok tt; sender = offered bytes (wait_of wait) limit })
   refused : (r : Refusal) → Offer bytes wait limit (refused_offer r)
 
 module _ (bytes : List ℕ) (wait limit : ℕ) where
   range_tested : (b : Bool) → whole bytes ≡ true → in_range (wait_of wait) limit ≡ b
       → Offer bytes wait limit
-      (cond b (record { verdict = verdict.Accepted; sender = offered bytes (wait_of wait) limit }) (refused_offer bad_wait_or_limit))
+      (cond b (record { verdict = Ok tt; sender = offered bytes (wait_of wait) limit }) (refused_offer bad_wait_or_limit))
   range_tested true w r = accepted w r
   range_tested false w r = refused bad_wait_or_limit
 
@@ -40,7 +40,7 @@ module _ (bytes : List ℕ) (wait limit : ℕ) where
       → Offer bytes wait limit
       (cond b
       (cond (in_range (wait_of wait) limit)
-      (record { verdict = verdict.Accepted; sender = offered bytes (wait_of wait) limit })
+      (record { verdict = Ok tt; sender = offered bytes (wait_of wait) limit })
       (refused_offer bad_wait_or_limit))
       (refused_offer not_whole))
   whole_tested true w = range_tested (in_range (wait_of wait) limit) w refl
@@ -64,12 +64,12 @@ module _ (bytes : List ℕ) (wait limit : ℕ) (w : whole bytes ≡ true) where
       let some = ((and-eq-true_iff (leb 1 limit) (leb limit 50)).0 both.1).0 in
       rw (offered_holds, offered_length, w, drop_pad, zeros_pass, both.0, both.1) some
 
-pub accepted_sound : {bytes : List ℕ} {wait limit : ℕ} {o : Offered} → Offer bytes wait limit o → o.verdict ≡ verdict.Accepted
+pub accepted_sound : {bytes : List ℕ} {wait limit : ℕ} {o : Offered} → Offer bytes wait limit o → o.verdict ≡ Ok tt
     → sound o.sender ≡ true
 accepted_sound {bytes} {wait} {limit} (accepted w r) e = offered_sound bytes (wait_of wait) limit w r
 accepted_sound (refused r) e = cc
 
-pub accepted_holds : {bytes : List ℕ} {wait limit : ℕ} {o : Offered} → Offer bytes wait limit o → o.verdict ≡ verdict.Accepted
+pub accepted_holds : {bytes : List ℕ} {wait limit : ℕ} {o : Offered} → Offer bytes wait limit o → o.verdict ≡ Ok tt
     → bytes_of o.sender ≡ bytes
 accepted_holds {bytes} {wait} {limit} (accepted w r) e = offered_holds bytes (wait_of wait) limit w
 accepted_holds (refused r) e = cc

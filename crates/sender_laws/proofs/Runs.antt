@@ -4,14 +4,13 @@ use native.Mathlib.Omega.{arith}
 use mathlib.Core.Path.{◌≡◌, refl}
 use mathlib.Core.Bool.{true, ◌||◌, or-true}
 use mathlib.Core.List.{List, [], ◌∷◌}
-use lib.Dec.{ltb}
 use Rattle.sender.specs.declared.Phase.TheVariants as phase
 use Rattle.sender.specs.declared.Sender.{Sender}
 use Rattle.sender.specs.declared.Outcome.{Outcome}
 use Rattle.sender.specs.State.{sound, length_of}
 use Rattle.sender_laws.specs.Run.{Call, poll, echo, called, answers, ends, some_ends, echoes}
-use Rattle.sender_laws.proofs.Choice.{one_of_two}
-use Rattle.sender_laws.proofs.Sound.{awaits}
+use Rattle.std.proofs.lemmas.Bool.Decides.{nat_tests}
+use Rattle.sender.proofs.State.{awaits}
 use Rattle.sender_laws.proofs.Moves.{Move, stays, starts, goes_on, finishes, waits_again, gives_up, move}
 use Rattle.sender_laws.proofs.Kept.{move_sound}
 
@@ -21,7 +20,7 @@ Ends s calls = sound s ≡ true → s.phase ≡ phase.Awaiting → length_of s �
 
 one_echo : (c : Call) (cs : List Call) → echoes (c ∷ cs) ≤ suc (echoes cs)
 one_echo (poll time last) cs = omega arith
-one_echo (echo symbol) cs = one_of_two (ltb 511 symbol) (omega arith) (omega arith)
+one_echo (echo symbol) cs = grind (arith, nat_tests)
 
 move_ends : {s : Sender} {c : Call} {o : Outcome} → Move s c o → (cs : List Call) → Ends o.sender cs
     → sound s ≡ true → s.phase ≡ phase.Awaiting → length_of s ≤ s.position + echoes (c ∷ cs)

@@ -2,19 +2,21 @@
 use Prim.Native.Nat.{ℕ, ◌+◌, ◌<◌}
 use native.Mathlib.Numerals.{add-one}
 use native.Mathlib.Omega.{arith}
-use mathlib.Core.Path.{◌≡◌, refl, ap, ◌∙◌}
-use mathlib.Core.Bool.{Bool, true, false, ◌||◌, true≢false}
+use mathlib.Core.Path.{◌≡◌, ap, ◌∙◌}
+use mathlib.Core.Bool.{Bool, false, ◌||◌}
 use mathlib.Core.List.{List, [], ◌∷◌, ◌++◌, append-nil, append_assoc}
 use lib.ListN.{length, get_or, take, length-take}
 use lib.Seq.{take-suc, take_all}
+use Rattle.std.proofs.lemmas.Grind.{common_steps}
 use Rattle.datagram.proofs.Whole.{as_many}
 use Rattle.datagram.specs.Whole.{declared, symbols}
 use Rattle.sender.specs.declared.Phase.TheVariants as phase
 use Rattle.sender.specs.declared.Sender.{Sender}
 use Rattle.sender.specs.declared.Outcome.{Outcome}
 use Rattle.sender.specs.State.{length_of, bytes_of}
+use Rattle.sender.proofs.State.{awaits}
 use Rattle.sender_laws.specs.Run.{Terms, Call, called, answers, after, with_sent, sent, fails, some_fails, sent_by}
-use Rattle.sender_laws.proofs.Sound.{facts, awaits}
+use Rattle.sender_laws.proofs.Sound.{all_bytes_lem}
 use Rattle.sender_laws.proofs.Moves.{Move, stays, starts, goes_on, finishes, waits_again, gives_up, move}
 use Rattle.sender_laws.proofs.Kept.{after_terms}
 
@@ -33,10 +35,10 @@ move_sent : {s : Sender} {c : Call} {o : Outcome} → Move s c o → fails o.ans
     → sent_in s ++ with_sent o.answer later ≡ sent_in o.sender ++ later
 move_sent (stays answer quiet unheard) n later = rw (quiet later)
 move_sent {s} (starts h e) n later =
-    let full = (facts s h).all_bytes_lem in
+    let full = all_bytes_lem s h in
     rw e (next_sent (symbols (bytes_of s)) 0 later (rw as_many (omega arith)))
 move_sent {s} (goes_on h e more) n later =
-    let full = (facts s h).all_bytes_lem in
+    let full = all_bytes_lem s h in
     let a = awaits s h e in
     rw e (next_sent (symbols (bytes_of s)) (s.position + 1) later (rw as_many (omega arith)))
 move_sent {s} (finishes h e end) n later = rw (e, end)
@@ -44,8 +46,7 @@ move_sent (waits_again h e more) n later = cc
 move_sent (gives_up h e all) n later = cc
 
 neither : (a b : Bool) → (a || b) ≡ false → (a ≡ false) × (b ≡ false)
-neither true b e = absurd (true≢false e)
-neither false b e = (refl, e)
+neither a b e = grind (arith, common_steps)
 
 -- what was sent before these calls and what they send
 in_order : (s : Sender) (calls : List Call) → some_fails (answers s calls) ≡ false

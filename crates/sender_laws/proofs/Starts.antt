@@ -7,7 +7,7 @@ use mathlib.Core.Path.{◌≡◌}
 use mathlib.Core.Bool.{true, and-eq-true_iff}
 use mathlib.Core.List.{List, [], ◌∷◌}
 use borrow.Author.Tests.{lt-leb}
-use lib.Dec.{leb, ltb}
+use lib.Dec.{ltb}
 use lib.ListN.{get_or}
 use Rattle.datagram.specs.Whole.{symbols, all_bytes}
 use Rattle.datagram.proofs.Whole.{below_at}
@@ -15,7 +15,7 @@ use Rattle.sender.specs.declared.Sender.{Sender}
 use Rattle.sender.specs.declared.Outcome.{Outcome}
 use Rattle.sender.specs.State.{bytes_of, symbol_at}
 use Rattle.sender_laws.specs.Run.{Call, called, answers, with_sent, sent, commands, starts_left}
-use Rattle.sender_laws.proofs.Choice.{one_of_two}
+use Rattle.std.proofs.lemmas.Bool.Decides.{nat_tests}
 use Rattle.sender_laws.proofs.Sound.{waiting_left}
 use Rattle.sender_laws.proofs.Moves.{Move, stays, starts, goes_on, finishes, waits_again, gives_up, move}
 use Rattle.sender_laws.proofs.Kept.{move_datagram}
@@ -31,7 +31,7 @@ move_starts : {s : Sender} {c : Call} {o : Outcome} → Move s c o → all_bytes
 move_starts (stays answer quiet unheard) b later k = rw (quiet later) k
 move_starts {s} (starts h e) b later k =
     let left = waiting_left s h e in
-    rw e (one_of_two (leb 256 (symbol_at s 0)) (omega arith) (omega arith))
+    rw e (grind (arith, nat_tests))
 move_starts {s} (goes_on h e more) b later k =
     rw (e, add-one s.position, lt-leb 256 (symbol_at s (suc s.position)) (data_symbol (bytes_of s) s.position b)) k
 move_starts {s} (finishes h e end) b later k = rw e (omega arith)

@@ -9,7 +9,7 @@ use Rattle.sender.specs.declared.Sender.{Sender}
 use Rattle.sender.specs.declared.Answer.TheVariants.{Send}
 use Rattle.sender.specs.State.{sound, symbol_at}
 use Rattle.sender.specs.Step.{outcome, moved_to, elapsed, polled}
-use Rattle.sender_laws.proofs.Sound.{facts}
+use Rattle.sender_laws.proofs.Sound.{wait_fits}
 
 pub past_the_wrap : elapsed 5 4294967290 ≡ 11
 past_the_wrap = refl
@@ -34,6 +34,6 @@ set_back_long time last h k = omega arith
 pub set_back_starts : (s : Sender) (time last : ℕ) → sound s ≡ true → time < last → last - time ≤ 4294967041
     → polled phase.Waiting s (elapsed time last) ≡ outcome (Send (symbol_at s 0)) (moved_to s phase.Awaiting 0 s.failures)
 set_back_starts s time last h l k =
-    let fits = (facts s h).wait_fits in
+    let fits = wait_fits s h in
     let long = set_back_long time last l k in
     rw (le-leb s.wait (elapsed time last) (omega arith))

@@ -1,18 +1,17 @@
 -- What holds over any list of calls of a sender (rules 7.6, 13.6).
-use Rattle.std.specs.Prelude.{◌≡◌, true, false, List, ℕ, ◌+◌, ◌≤◌, take}
+use Rattle.std.specs.Prelude.{◌≡◌, true, false, List, ℕ, ◌+◌, ◌≤◌, take, Ok}
 use Rattle.datagram.specs.Whole.{symbols, all_bytes}
 use Rattle.sender.specs.declared.Phase.TheVariants as phase
 use Rattle.sender.specs.declared.Sender.{Sender}
-use Rattle.sender.specs.declared.Verdict.TheVariants as verdict
 use Rattle.sender.specs.State.{sound, length_of, bytes_of}
 use Rattle.sender.specs.Step.{offer_of, zero_sender}
 use Rattle.sender_laws.specs.Run.{Call, answers, after, terms_of, sent, commands, some_ends, some_fails, echoes, sent_by, starts_left}
 
 pub record SenderLaws : Type 0 where
   -- an accepted offer is a sound sender that holds the datagram offered; the all-zero sender is not sound
-  pub offer_sound : (bytes : List ℕ) (wait limit : ℕ) → (offer_of bytes wait limit).verdict ≡ verdict.Accepted
+  pub offer_sound : (bytes : List ℕ) (wait limit : ℕ) → (offer_of bytes wait limit).verdict ≡ Ok tt
       → sound (offer_of bytes wait limit).sender ≡ true
-  pub offer_holds : (bytes : List ℕ) (wait limit : ℕ) → (offer_of bytes wait limit).verdict ≡ verdict.Accepted
+  pub offer_holds : (bytes : List ℕ) (wait limit : ℕ) → (offer_of bytes wait limit).verdict ≡ Ok tt
       → bytes_of (offer_of bytes wait limit).sender ≡ bytes
   pub zero_unsound : sound zero_sender ≡ false
   -- soundness is kept, and so is what the offer fixed

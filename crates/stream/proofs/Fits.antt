@@ -1,4 +1,5 @@
 -- A pass puts no more text than there is room for, and so do the first line and the last ones.
+use Rattle.std.specs.Prelude.{Result, Option, Ok, Err, None, Some}
 use Rattle.std.proofs.Common.{◌≡◌, ℕ, zero, suc, ◌+◌, ◌-◌, ◌≤◌, Bool, true, false, cond, leb, List, [], ◌++◌, length, take, drop, refl, ap, arith, length-append, ne_eqb, leb-true}
 use Rattle.datagram.proofs.Whole.{declares}
 use Rattle.listener.specs.declared.Heard.{Heard}
@@ -7,16 +8,15 @@ use Rattle.listener.specs.Answers.{is_handed}
 use Rattle.listener.specs.Step.{hear_of}
 use Rattle.listener.proofs.Handed.{hands}
 use Rattle.recording.specs.declared.Record.{Record}
-use Rattle.recording.specs.declared.Record.TheVariants as record-case
 use Rattle.recording.specs.Record.{record_of}
 use Rattle.progress.specs.declared.Progress.{Progress}
-use Rattle.progress.specs.declared.Stop.TheVariants.{Running}
 use Rattle.progress.specs.Progress.{advanced}
 use Rattle.framing.specs.Steps.{entry}
 use Rattle.framing.specs.Walk.{Walk, walk, behind, entry_of, line_room, walk_record, walk_from}
 use Rattle.listing.specs.Text.{Stored, stored_text}
 use Rattle.listing.specs.Line.{line_of}
 use Rattle.listing.proofs.Short.{entry_short}
+use Rattle.datagram.specs.declared.Refusal.{Refusal}
 
 -- what is handed out has a line that fits
 module _ (time symbol : ℕ) (l : Listener) where
@@ -34,17 +34,17 @@ module _ (time symbol : ℕ) (l : Listener) where
   line_fits false e = omega arith
 
 -- one record, if the text behind it fits in the room that is left
-record_fits : (at room : ℕ) (p : Progress) (rest : ℕ → Heard → Walk) (r : Record) → 512 ≤ room
+record_fits : (at room : ℕ) (p : Progress) (rest : ℕ → Heard → Walk) (r : Result (Option Record) Refusal) → 512 ≤ room
     → ((time : ℕ) (h : Heard) → length (rest time h).text ≤ room - length (entry_of line_of time h))
     → length (walk_record r p at (λ time h. behind (entry_of line_of time h) (rest time h))).text ≤ room
-record_fits at room p rest (record-case.Heard time symbol) roomy later =
-    let h = hear_of p.listener symbol in
-    omega (arith, length-append (entry_of line_of time h) (rest time h).text, later time h, line_fits time symbol p.listener (is_handed h.answer) refl)
-record_fits at room p rest record-case.End roomy later = omega arith
-record_fits at room p rest (record-case.Refused r) roomy later = omega arith
+record_fits at room p rest (Ok (Some r)) roomy later =
+    let h = hear_of p.listener r.symbol in
+    omega (arith, length-append (entry_of line_of r.time h) (rest r.time h).text, later r.time h, line_fits r.time r.symbol p.listener (is_handed h.answer) refl)
+record_fits at room p rest (Ok None) roomy later = omega arith
+record_fits at room p rest (Err r) roomy later = omega arith
 
 with_room : (at room : ℕ) (p : Progress) (w : Walk) (b : Bool) → leb line_room room ≡ b → (512 ≤ room → length w.text ≤ room)
-    → length (cond b w (walk [] p at Running)).text ≤ room
+    → length (cond b w (walk [] p at None)).text ≤ room
 with_room at room p w true e fits = fits (leb-true line_room room e)
 with_room at room p w false e fits = omega arith
 

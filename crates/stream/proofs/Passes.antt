@@ -1,9 +1,8 @@
 -- What a caller may count on after a pass: the text fits, and where it did not stop and a whole record was held fewer bytes are.
+use Rattle.std.specs.Prelude.{Option, Some, None}
 use Rattle.std.proofs.Common.{◌≡◌, ℕ, suc, ◌+◌, ◌-◌, ◌<◌, ◌≤◌, List, length, take, sym, refl, ap, ◌∙◌, arith, length-drop, length-take-le}
 use lib.Seq.{length-sets}
 use Rattle.progress.specs.declared.Progress.{Progress}
-use Rattle.progress.specs.declared.Stop.{Stop}
-use Rattle.progress.specs.declared.Stop.TheVariants.{Running, Stopped}
 use Rattle.progress.specs.Progress.{placed_from}
 use Rattle.framing.specs.Walk.{Walk, line_room, walk_from, records_in}
 use Rattle.framing.proofs.Reach.{moves}
@@ -11,10 +10,11 @@ use Rattle.listing.specs.Line.{line_of}
 use Rattle.stream.specs.declared.Pass as code
 use Rattle.stream.specs.Pass.{Filled, pass_of}
 use Rattle.stream.proofs.Fits.{text_fits}
+use Rattle.datagram.specs.declared.Refusal.{Refusal}
 
-running : (base : ℕ) (t : Stop) → placed_from base t ≡ Running → t ≡ Running
-running base Running e = refl
-running base (Stopped r) e = let z : ◌≡◌ {A = ℕ} 0 1 = cc in absurd (omega arith)
+running : (base : ℕ) (t : Option Refusal) → placed_from base t ≡ None → t ≡ None
+running base None e = refl
+running base (Some r) e = let z : ◌≡◌ {A = ℕ} 0 1 = cc in absurd (omega arith)
 
 module _ (p : Progress) (base n : ℕ) (input₀ out₀ : List ℕ) {input₁ out₁ : List ℕ} {r : code.Pass} (h : n ≤ length input₀)
     (f : Filled (pass_of p base (take n input₀) (length out₀)) input₀ input₁ out₀ out₁ r) where
@@ -43,7 +43,7 @@ module _ (p : Progress) (base n : ℕ) (input₀ out₀ : List ℕ) {input₁ ou
   held_within = omega (arith, held_is)
 
 -- a pass over a whole record, with room for a line, takes one or more, or stops
-pub pass_moves : (p : Progress) (base : ℕ) (s : List ℕ) (room : ℕ) → line_room ≤ room → 8 ≤ length s → (pass_of p base s room).stop ≡ Running
+pub pass_moves : (p : Progress) (base : ℕ) (s : List ℕ) (room : ℕ) → line_room ≤ room → 8 ≤ length s → (pass_of p base s room).stop ≡ None
     → length (pass_of p base s room).rest < length s
 unfolding pass_of
 pass_moves p base s room roomy some e =

@@ -1,12 +1,12 @@
 -- One pass over bytes of a recording that are held: the text that it puts, and what it leaves.
-use Rattle.std.specs.Prelude.{◌≡◌, ℕ, ◌+◌, ◌%◌, ◌^◌, List, length, drop}
+use Rattle.std.specs.Prelude.{◌≡◌, ℕ, ◌+◌, ◌%◌, ◌^◌, List, length, drop, Option}
 use Rattle.std.proofs.lemmas.List.Edits.{sets}
 use Rattle.progress.specs.declared.Progress.{Progress}
-use Rattle.progress.specs.declared.Stop.{Stop}
 use Rattle.progress.specs.Progress.{placed_from}
 use Rattle.framing.specs.Walk.{Walk, walk_from, records_in}
 use Rattle.listing.specs.Line.{line_of}
 use Rattle.stream.specs.declared.Pass as code
+use Rattle.datagram.specs.declared.Refusal.{Refusal}
 
 -- the text, the progress, the offset in the whole recording of the first byte that is left, the bytes left, and why it stopped
 pub record Passed : Type 0 where
@@ -14,7 +14,7 @@ pub record Passed : Type 0 where
   pub progress : Progress
   pub base : ℕ
   pub rest : List ℕ
-  pub stop : Stop
+  pub stop : Option Refusal
 
 -- bytes that begin at an offset of the recording are listed, as long as there is room for a line; offsets are counted on 64 bits
 abbrev pub passed : ℕ → List ℕ → Walk → Passed

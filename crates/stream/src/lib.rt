@@ -9,8 +9,9 @@ ghost use Rattle.listing.specs.Text.{Stored, stored_text};
 ghost use Rattle.listing.specs.Walk.{end_text};
 ghost use Rattle.stream.specs.Pass.{Filled, pass_of};
 
+use datagram::Refusal;
 use listing::block::list_block;
-use progress::{Progress, Stop, end_of, placed_from};
+use progress::{Progress, end_of, placed_from};
 
 // What a pass gives: the progress, the offset of the buffer's first byte in the whole recording, how many bytes at its front
 // are not listed yet, how many bytes of text were put, and whether a record was refused.
@@ -20,7 +21,7 @@ pub struct Pass {
     pub base: u64,
     pub held: usize,
     pub written: usize,
-    pub stop: Stop,
+    pub stop: Option<Refusal>,
 }
 
 // Lists the whole records of the first `filled` bytes, as long as the output has room for a line, and moves the bytes behind
@@ -34,40 +35,22 @@ pub fn list_held(
 ) -> Pass
     ensures { Filled (pass_of progress base (take filled input.old) (length out.old)) input.old input.new out.old out.new result }
 {
-    let size = input.len();
-    if size < filled {
-        return list_first(progress, base, size, input, out);
-    }
-    list_first(progress, base, filled, input, out)
+    let n = filled.min(input.len());
+    list_first(progress, base, n, input, out)
 }
 
 fn list_first(progress: Progress, base: u64, n: usize, input: &mut [u8], out: &mut [u8]) -> Pass
     requires { n ≤ length input.old }
     ensures { Filled (pass_of progress base (take n input.old) (length out.old)) input.old input.new out.old out.new result }
 {
-    let r = list_block(progress, &input[0..n], out);
-    let p = r.progress;
-    let used = r.used;
-    let stop = r.stop;
-    move_down(input, used, n);
+    let r = list_block(progress, &input[..n], out);
+    input.copy_within(r.used..n, 0);
     Pass {
-        progress: p,
-        base: std::num::wrapping_add_u64(base, used as u64),
-        held: n - used,
+        progress: r.progress,
+        base: base.wrapping_add(r.used as u64),
+        held: n - r.used,
         written: r.written,
-        stop: placed_from(base, stop),
-    }
-}
-
-// Moves the bytes from `at` on, of the first n, to the front.
-fn move_down(input: &mut [u8], at: usize, n: usize)
-    requires { (at ≤ n) × (n ≤ length input.old) }
-    ensures { input.new ≡ sets input.old 0 (drop at (take n input.old)) }
-{
-    let mut i = 0;
-    while i < n - at {
-        input[i] = input[at + i];
-        i += 1;
+        stop: placed_from(base, r.stop),
     }
 }
 

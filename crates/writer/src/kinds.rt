@@ -5,9 +5,9 @@ ghost use Rattle.datagram.specs.Position.{outcome};
 ghost use Rattle.message.specs.Spelling.{depth_bytes, wind_angle_bytes, wind_speed_bytes, speed_bytes, trip_bytes, total_bytes, logs_bytes, speeds_bytes, water_bytes, lamp_bytes, latitude_bytes, longitude_bytes, ground_bytes, course_bytes, time_bytes, date_bytes, pilot_bytes, key_bytes, heading_bytes, variation_bytes, turn_bytes};
 ghost use Rattle.writer.specs.Writing.{store_of};
 
-use crate::store::{store3, store4, store5, store7, store9};
+use crate::store::store;
 use angle::{half_digits, quarter_digits, whole_digits};
-use datagram::Written;
+use datagram::Refusal;
 use number::{bits_of, flag};
 
 pub fn depth(
@@ -18,7 +18,7 @@ pub fn depth(
     defective: bool,
     deep: bool,
     shallow: bool,
-) -> Written
+) -> Result<usize, Refusal>
     ensures { outcome result part.new ≡ store_of (depth_bytes tenths anchor metric defective deep shallow) part.old }
 {
     let yz = 128 * flag(anchor)
@@ -26,86 +26,51 @@ pub fn depth(
         + 4 * flag(defective)
         + 2 * flag(deep)
         + flag(shallow);
-    store5(
-        part,
-        0x00,
-        0x02,
-        yz,
-        (tenths % 256) as u8,
-        (tenths / 256 % 256) as u8,
-    )
+    let [low, high, ..] = tenths.to_le_bytes();
+    store(part, 0x00, [0x02, yz, low, high])
 }
 
-pub fn wind_angle(part: &mut [u16], halves: u32) -> Written
+pub fn wind_angle(part: &mut [u16], halves: u32) -> Result<usize, Refusal>
     ensures { outcome result part.new ≡ store_of (wind_angle_bytes halves) part.old }
 {
-    store4(
-        part,
-        0x10,
-        0x01,
-        (halves / 256 % 256) as u8,
-        (halves % 256) as u8,
-    )
+    let [low, high, ..] = halves.to_le_bytes();
+    store(part, 0x10, [0x01, high, low])
 }
 
-pub fn wind_speed(part: &mut [u16], tenths: u32, metres: bool) -> Written
+pub fn wind_speed(part: &mut [u16], tenths: u32, metres: bool) -> Result<usize, Refusal>
     ensures { outcome result part.new ≡ store_of (wind_speed_bytes tenths metres) part.old }
 {
     let xx = (tenths / 10 % 128) as u8 + 128 * flag(metres);
-    store4(part, 0x11, 0x01, xx, (tenths % 10) as u8)
+    store(part, 0x11, [0x01, xx, (tenths % 10) as u8])
 }
 
-pub fn speed(part: &mut [u16], tenths: u32) -> Written
+pub fn speed(part: &mut [u16], tenths: u32) -> Result<usize, Refusal>
     ensures { outcome result part.new ≡ store_of (speed_bytes tenths) part.old }
 {
-    store4(
-        part,
-        0x20,
-        0x01,
-        (tenths % 256) as u8,
-        (tenths / 256 % 256) as u8,
-    )
+    let [low, high, ..] = tenths.to_le_bytes();
+    store(part, 0x20, [0x01, low, high])
 }
 
-pub fn trip(part: &mut [u16], hundredths: u32) -> Written
+pub fn trip(part: &mut [u16], hundredths: u32) -> Result<usize, Refusal>
     ensures { outcome result part.new ≡ store_of (trip_bytes hundredths) part.old }
 {
-    store5(
-        part,
-        0x21,
-        0x02,
-        (hundredths % 256) as u8,
-        (hundredths / 256 % 256) as u8,
-        (hundredths / 65536 % 16) as u8,
-    )
+    let [low, high, top, _] = hundredths.to_le_bytes();
+    store(part, 0x21, [0x02, low, high, top % 16])
 }
 
-pub fn total(part: &mut [u16], tenths: u32) -> Written
+pub fn total(part: &mut [u16], tenths: u32) -> Result<usize, Refusal>
     ensures { outcome result part.new ≡ store_of (total_bytes tenths) part.old }
 {
-    store5(
-        part,
-        0x22,
-        0x02,
-        (tenths % 256) as u8,
-        (tenths / 256 % 256) as u8,
-        0,
-    )
+    let [low, high, ..] = tenths.to_le_bytes();
+    store(part, 0x22, [0x02, low, high, 0])
 }
 
-pub fn logs(part: &mut [u16], total: u32, trip: u32) -> Written
+pub fn logs(part: &mut [u16], total: u32, trip: u32) -> Result<usize, Refusal>
     ensures { outcome result part.new ≡ store_of (logs_bytes total trip) part.old }
 {
-    store7(
-        part,
-        0x25,
-        16 * ((total / 65536 % 16) as u8) + 4,
-        (total % 256) as u8,
-        (total / 256 % 256) as u8,
-        (trip % 256) as u8,
-        (trip / 256 % 256) as u8,
-        (trip / 65536 % 16) as u8,
-    )
+    let [xx, yy, z, _] = total.to_le_bytes();
+    let [uu, vv, w, _] = trip.to_le_bytes();
+    store(part, 0x25, [16 * (z % 16) + 4, xx, yy, uu, vv, w % 16])
 }
 
 pub fn speeds(
@@ -115,105 +80,100 @@ pub fn speeds(
     valid: bool,
     stopped: bool,
     mph: bool,
-) -> Written
+) -> Result<usize, Refusal>
     ensures { outcome result part.new ≡ store_of (speeds_bytes speed average valid stopped mph) part.old }
 {
     let de = 64 * flag(valid) + flag(stopped) + 2 * flag(mph);
-    store7(
-        part,
-        0x26,
-        0x04,
-        (speed % 256) as u8,
-        (speed / 256 % 256) as u8,
-        (average % 256) as u8,
-        (average / 256 % 256) as u8,
-        de,
-    )
+    let [xl, xh, ..] = speed.to_le_bytes();
+    let [yl, yh, ..] = average.to_le_bytes();
+    store(part, 0x26, [0x04, xl, xh, yl, yh, de])
 }
 
-pub fn water(part: &mut [u16], tenths: i32) -> Written
+pub fn water(part: &mut [u16], tenths: i32) -> Result<usize, Refusal>
     ensures { outcome result part.new ≡ store_of (water_bytes tenths) part.old }
 {
-    let bits = bits_of(tenths) as u64 + 100;
-    store4(
-        part,
-        0x27,
-        0x01,
-        (bits % 256) as u8,
-        (bits / 256 % 256) as u8,
-    )
+    let [low, high, ..] = (u64::from(bits_of(tenths)) + 100).to_le_bytes();
+    store(part, 0x27, [0x01, low, high])
 }
 
-pub fn lamp(part: &mut [u16], level: u32) -> Written
+pub fn lamp(part: &mut [u16], level: u32) -> Result<usize, Refusal>
     ensures { outcome result part.new ≡ store_of (lamp_bytes level) part.old }
 {
-    store3(part, 0x30, 0x00, 4 * ((level % 4) as u8))
+    store(part, 0x30, [0x00, 4 * ((level % 4) as u8)])
 }
 
-pub fn latitude(part: &mut [u16], degrees: u32, hundredths: u32, south: bool) -> Written
+pub fn latitude(
+    part: &mut [u16],
+    degrees: u32,
+    hundredths: u32,
+    south: bool,
+) -> Result<usize, Refusal>
     ensures { outcome result part.new ≡ store_of (latitude_bytes degrees hundredths south) part.old }
 {
     coordinate(part, 0x50, degrees, hundredths, south)
 }
 
-pub fn longitude(part: &mut [u16], degrees: u32, hundredths: u32, east: bool) -> Written
+pub fn longitude(
+    part: &mut [u16],
+    degrees: u32,
+    hundredths: u32,
+    east: bool,
+) -> Result<usize, Refusal>
     ensures { outcome result part.new ≡ store_of (longitude_bytes degrees hundredths east) part.old }
 {
     coordinate(part, 0x51, degrees, hundredths, east)
 }
 
 // The degrees, and the hundredths of a minute with the side above them.
-fn coordinate(part: &mut [u16], command: u8, degrees: u32, hundredths: u32, side: bool) -> Written
+fn coordinate(
+    part: &mut [u16],
+    command: u8,
+    degrees: u32,
+    hundredths: u32,
+    side: bool,
+) -> Result<usize, Refusal>
     ensures { outcome result part.new ≡ store_of (command ∷ 0x02 ∷ (degrees % 256) ∷ low_byte hundredths ∷ (hundredths / 256 % 128 + 128 * num side) ∷ []) part.old }
 {
-    let top = (hundredths / 256 % 128) as u8 + 128 * flag(side);
-    store5(
+    let [low, high, ..] = hundredths.to_le_bytes();
+    store(
         part,
         command,
-        0x02,
-        (degrees % 256) as u8,
-        (hundredths % 256) as u8,
-        top,
+        [
+            0x02,
+            (degrees % 256) as u8,
+            low,
+            high % 128 + 128 * flag(side),
+        ],
     )
 }
 
-pub fn ground(part: &mut [u16], tenths: u32) -> Written
+pub fn ground(part: &mut [u16], tenths: u32) -> Result<usize, Refusal>
     ensures { outcome result part.new ≡ store_of (ground_bytes tenths) part.old }
 {
-    store4(
-        part,
-        0x52,
-        0x01,
-        (tenths % 256) as u8,
-        (tenths / 256 % 256) as u8,
-    )
+    let [low, high, ..] = tenths.to_le_bytes();
+    store(part, 0x52, [0x01, low, high])
 }
 
-pub fn course(part: &mut [u16], halves: u32) -> Written
+pub fn course(part: &mut [u16], halves: u32) -> Result<usize, Refusal>
     ensures { outcome result part.new ≡ store_of (course_bytes halves) part.old }
 {
     let d = half_digits(halves);
-    store3(part, 0x53, 16 * d.u, d.six)
+    store(part, 0x53, [16 * d.u, d.six])
 }
 
-pub fn time(part: &mut [u16], hours: u32, minutes: u32, seconds: u32) -> Written
+pub fn time(part: &mut [u16], hours: u32, minutes: u32, seconds: u32) -> Result<usize, Refusal>
     ensures { outcome result part.new ≡ store_of (time_bytes hours minutes seconds) part.old }
 {
     let t1 = 16 * ((seconds % 16) as u8) + 1;
     let rs = 4 * ((minutes % 64) as u8) + (seconds / 16 % 4) as u8;
-    store4(part, 0x54, t1, rs, (hours % 256) as u8)
+    store(part, 0x54, [t1, rs, (hours % 256) as u8])
 }
 
-pub fn date(part: &mut [u16], month: u32, day: u32, year: u32) -> Written
+pub fn date(part: &mut [u16], month: u32, day: u32, year: u32) -> Result<usize, Refusal>
     ensures { outcome result part.new ≡ store_of (date_bytes month day year) part.old }
 {
-    store4(
-        part,
-        0x56,
-        16 * ((month % 16) as u8) + 1,
-        (day % 256) as u8,
-        (year % 256) as u8,
-    )
+    let m1 = 16 * ((month % 16) as u8) + 1;
+    store(part, 0x56, [m1, (day % 256) as u8, (year % 256) as u8])
 }
 
 pub fn pilot(
@@ -229,64 +189,70 @@ pub fn pilot(
     rudder: i32,
     ss: u32,
     tt: u32,
-) -> Written
+) -> Result<usize, Refusal>
     ensures { outcome result part.new ≡ store_of (pilot_bytes degrees right course auto vane track off_course wind_shift rudder ss tt) part.old }
 {
     let a = whole_digits(degrees, right);
     let c = quarter_digits(course);
     let z = 2 * flag(auto) + 4 * flag(vane) + 8 * flag(track);
     let m = 4 * flag(off_course) + 8 * flag(wind_shift);
-    store9(
+    let [rr, ..] = rudder.to_le_bytes();
+    store(
         part,
         0x84,
-        16 * a.u + 6,
-        a.six + 64 * c.quarter,
-        c.xy,
-        z,
-        m,
-        (bits_of(rudder) % 256) as u8,
-        (ss % 256) as u8,
-        (tt % 256) as u8,
+        [
+            16 * a.u + 6,
+            a.six + 64 * c.quarter,
+            c.xy,
+            z,
+            m,
+            rr,
+            (ss % 256) as u8,
+            (tt % 256) as u8,
+        ],
     )
 }
 
-pub fn key(part: &mut [u16], source: u32, code: u32) -> Written
+pub fn key(part: &mut [u16], source: u32, code: u32) -> Result<usize, Refusal>
     ensures { outcome result part.new ≡ store_of (key_bytes source code) part.old }
 {
     let yy = (code % 256) as u8;
-    store4(part, 0x86, 16 * ((source % 16) as u8) + 1, yy, 255 - yy)
+    store(part, 0x86, [16 * ((source % 16) as u8) + 1, yy, 255 - yy])
 }
 
-pub fn heading(part: &mut [u16], halves: u32, reference: u32, locked: bool) -> Written
+pub fn heading(
+    part: &mut [u16],
+    halves: u32,
+    reference: u32,
+    locked: bool,
+) -> Result<usize, Refusal>
     ensures { outcome result part.new ≡ store_of (heading_bytes halves reference locked) part.old }
 {
     let d = half_digits(halves);
     let r = quarter_digits(reference);
-    store5(
+    store(
         part,
         0x89,
-        16 * d.u + 2,
-        d.six + 64 * r.quarter,
-        r.xy,
-        0x20 + 2 * flag(locked),
+        [
+            16 * d.u + 2,
+            d.six + 64 * r.quarter,
+            r.xy,
+            0x20 + 2 * flag(locked),
+        ],
     )
 }
 
-pub fn variation(part: &mut [u16], east: i32) -> Written
+pub fn variation(part: &mut [u16], east: i32) -> Result<usize, Refusal>
     ensures { outcome result part.new ≡ store_of (variation_bytes east) part.old }
 {
-    store3(part, 0x99, 0x00, ((256 - bits_of(east) % 256) % 256) as u8)
+    let [low, ..] = east.to_le_bytes();
+    store(part, 0x99, [0x00, low.wrapping_neg()])
 }
 
-pub fn turn(part: &mut [u16], degrees: u32, right: bool, rudder: i32) -> Written
+pub fn turn(part: &mut [u16], degrees: u32, right: bool, rudder: i32) -> Result<usize, Refusal>
     ensures { outcome result part.new ≡ store_of (turn_bytes degrees right rudder) part.old }
 {
     let d = whole_digits(degrees, right);
-    store4(
-        part,
-        0x9C,
-        16 * d.u + 1,
-        d.six,
-        (bits_of(rudder) % 256) as u8,
-    )
+    let [rr, ..] = rudder.to_le_bytes();
+    store(part, 0x9C, [16 * d.u + 1, d.six, rr])
 }

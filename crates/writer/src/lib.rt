@@ -9,30 +9,26 @@ ghost use Rattle.datagram.specs.Position.{outcome};
 ghost use Rattle.message.specs.Spelling.{bytes_of};
 ghost use Rattle.writer.specs.Writing.{store_of, write_of};
 
-use datagram::Written;
+use datagram::Refusal;
 use datagram::refusals::NO_ROOM;
-use message::{Message, Verdict};
+use message::Message;
+use message::range::range_of;
 
 // Writes the message's symbols from the position `at`, or gives refusal 7 or 8, in that order. Nothing else is changed.
 #[tactic(auto, unfolding(crate::specs::Writing::write_of))]
-pub fn write(m: Message, buf: &mut [u16], at: usize) -> Written
+pub fn write(m: Message, buf: &mut [u16], at: usize) -> Result<usize, Refusal>
     ensures { outcome result buf.new ≡ write_of m buf.old at }
 {
-    match message::range::range_of(m) {
-        Verdict::Refused(r) => Written::Refused(r),
-        Verdict::InRange => {
-            if at <= buf.len() {
-                put(m, &mut buf[at..])
-            } else {
-                Written::Refused(NO_ROOM)
-            }
-        }
+    range_of(m)?;
+    if buf.len() < at {
+        return Err(NO_ROOM);
     }
+    put(m, &mut buf[at..])
 }
 
 // Hands the lent part on to the kind's writer.
 #[tactic(auto, unfolding(message::specs::Spelling::bytes_of))]
-fn put(m: Message, part: &mut [u16]) -> Written
+fn put(m: Message, part: &mut [u16]) -> Result<usize, Refusal>
     ensures { outcome result part.new ≡ store_of (bytes_of m) part.old }
 {
     match m {

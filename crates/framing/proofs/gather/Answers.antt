@@ -5,33 +5,15 @@ use native.Mathlib.Omega.{arith}
 use lib.ListN.{get_or}
 use Rattle.recording.specs.Record.{byte_of}
 use Rattle.framing.proofs.Gathering.{gathered_one, gathered_more, plain}
-use Rattle.framing.proofs.Steps.{unused, gathered_stray, gathered_cancelled, gathered_whole}
+use Rattle.framing.proofs.Steps.{gathered_stray, gathered_cancelled, gathered_whole}
 use Rattle.framing.proofs.gather.Goals as goal
-
-pub returns-then-not-empty : goal.returns-then-not-empty
-returns-then-not-empty c = unused c.gives.ensures
-
-pub returns-then-bytes-ne18 : goal.returns-then-bytes-ne18
-returns-then-bytes-ne18 c = unused c.gives-then-bytes-ne18.ensures
-
-pub returns-then-input-at : goal.returns-then-input-at
-returns-then-input-at c = unused c.gives-then-input-at.ensures
-
-pub returns-then-left-lt3 : goal.returns-then-left-lt3
-returns-then-left-lt3 c = unused c.gives-then-left-lt3.ensures
-
-pub returns-then-left-n : goal.returns-then-left-n
-returns-then-left-n c = unused c.gives-then-left-n.ensures
 
 pub returns-then-carries : goal.returns-then-carries
 returns-then-carries c =
     let s = c.args.input.now in
     let at = c.args.at in
     let heard = rw plain at (c.carries-then-not-carries.ensures c.if-carries.true) in
-    λ h. (c.if-not-empty.false, gathered_stray (byte_of s at 6) (omega (arith, c.if-left-lt3.false)) (omega (arith, c.shared_slice_known-1.given (at + 6))) heard _ c.gives-then-carries.ensures)
-
-pub returns-then-not-carries : goal.returns-then-not-carries
-returns-then-not-carries c = unused c.gives-then-not-carries.ensures
+    (c.if-not-empty.false, gathered_stray (byte_of s at 6) (omega (arith, c.if-left-lt3.false)) (omega (arith, c.shared_slice_known-1.given (at + 6))) heard _ c.taken.ensures)
 
 pub loop-i-init : goal.loop-i-init
 loop-i-init c =
@@ -45,10 +27,7 @@ returns-then-carries-2 c =
     let s = c.args.input.now in
     let at = c.args.at in
     let heard = c.carries-then-not-carries-2.ensures c.if-carries-2.true in
-    λ h. (c.if-not-empty.false, gathered_cancelled {n = 3 + get_or s (at + 14) 0 % 16} v.invariant.2 refl (omega (arith, c.if-left-n.false)) (byte_of s (at + 8 * v.i) 6) v.invariant.0 c.loop-i-test.true (omega (arith, c.shared_slice_known-1.given (at + 8 * v.i + 6))) heard _ c.gives-then-carries-2.ensures)
-
-pub returns-then-not-carries-2 : goal.returns-then-not-carries-2
-returns-then-not-carries-2 c = unused c.gives-then-not-carries-2.ensures
+    (c.if-not-empty.false, gathered_cancelled {n = 3 + get_or s (at + 14) 0 % 16} v.invariant.2 refl (omega (arith, c.if-left-n.false)) (byte_of s (at + 8 * v.i) 6) v.invariant.0 c.loop-i-test.true (omega (arith, c.shared_slice_known-1.given (at + 8 * v.i + 6))) heard _ c.taken-then-carries-2.ensures)
 
 pub loop-i-preserved : goal.loop-i-preserved
 loop-i-preserved c =
@@ -64,4 +43,4 @@ returns c =
     let at = c.args.at in
     let n = 3 + get_or s (at + 14) 0 % 16 in
     let all : v.i ≡ n = omega (arith, c.loop-i-test.false, v.invariant.1) in
-    λ h. (c.if-not-empty.false, gathered_whole {n = n} v.invariant.2 refl (omega (arith, c.if-left-n.false)) all _ c.time_at.ensures _ c.gives-2.ensures)
+    (c.if-not-empty.false, gathered_whole {n = n} v.invariant.2 refl (omega (arith, c.if-left-n.false)) all _ c.time_at-time.ensures _ c.taken-2.ensures)

@@ -7,18 +7,18 @@ use Rattle.key_sender.specs.Key.{key_of}
 use Rattle.key_sender.proofs.Spelled.{key_refused, key_offered}
 use Rattle.key_sender.proofs.send_key.Goals as goal
 
-pub returns-in-Refused : goal.returns-in-Refused
+pub returns-in-Err : goal.returns-in-Err
 unfolding key_of write_of
-returns-in-Refused c =
+returns-in-Err c =
     let a = c.args in
     let w = c.write in
     c.refused_offer.ensures
-    ∙ key_refused a.source a.code (range_of (Key a.source a.code)) _ w.new.buf (rw c.in-Refused.is at w.ensures)
+    ∙ key_refused a.source a.code (range_of (Key a.source a.code)) _ w.new.buf (rw c.in-Err.is at w.ensures)
 
-pub returns-in-Wrote : goal.returns-in-Wrote
+pub returns-in-Ok : goal.returns-in-Ok
 unfolding key_of write_of
-returns-in-Wrote c =
+returns-in-Ok c =
     let a = c.args in
     let w = c.write in
     c.offer.ensures
-    ∙ key_offered a.source a.code (range_of (Key a.source a.code)) _ w.new.buf (rw c.in-Wrote.is at w.ensures)
+    ∙ key_offered a.source a.code (range_of (Key a.source a.code)) _ w.new.buf (rw c.in-Ok.is at w.ensures)

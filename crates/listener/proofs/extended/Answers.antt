@@ -50,22 +50,22 @@ module _ (l : Listener) (b : ℕ) (k : Held l) where
 known : (c : goal.Start) → Held c.args.l
 known c = held_by c.args.l (search rules) c.requires.0
 
-pub overflow_add-held : goal.overflow_add-held
-overflow_add-held c = omega (arith, known (goal.at.overflow_add-held c).Start)
+pub overflow_add-l : goal.overflow_add-l
+overflow_add-l c = omega (arith, known (goal.at.overflow_add-l c).Start)
 
 pub handed_out-requires : goal.handed_out-requires
 handed_out-requires c = omega (arith, known (goal.at.handed_out-requires c).Start)
 
-pub returns-then-held-l : goal.returns-then-held-l
-returns-then-held-l c =
-    c.handed_out.ensures ∙ hands_out c.args.l c.args.byte (known (goal.at.returns-then-held-l c).Start) c.requires.1 (omega arith)
+pub returns-then-l : goal.returns-then-l
+returns-then-l c =
+    c.handed_out.ensures ∙ hands_out c.args.l c.args.byte (known (goal.at.returns-then-l c).Start) c.requires.1 (omega arith)
 
-pub bounds-next-at : goal.bounds-next-at
-bounds-next-at c = omega (arith, known (goal.at.bounds-next-at c).Start)
+pub bounds-next-l : goal.bounds-next-l
+bounds-next-l c = omega (arith, known (goal.at.bounds-next-l c).Start)
 
 pub overflow_add-next : goal.overflow_add-next
 overflow_add-next c = omega (arith, known (goal.at.overflow_add-next c).Start)
 
 pub returns : goal.returns
 returns c =
-    c.without_bytes.ensures ∙ keeps c.args.l c.args.byte (known (goal.at.returns c).Start) c.requires.1 c.if-held-l.false
+    c.without_bytes.ensures ∙ keeps c.args.l c.args.byte (known (goal.at.returns c).Start) c.requires.1 c.if-l.false

@@ -1,29 +1,20 @@
--- `handed_out` copies the held bytes into zeros and stores the new one after them.
--- The loop's invariant: `out` is the first `i` held bytes, padded. The measure is what is left of those held.
+-- `handed_out` copies the held bytes over zeros and stores the new one after them.
 use borrow.Author.Rules.{rules}
-use Prim.Native.Nat.{ℕ, ◌+◌, ◌<◌}
 use mathlib.Core.Path.{◌≡◌}
 use mathlib.Core.List.{List, [], ◌∷◌, ◌++◌}
-use native.Mathlib.Numerals.{add-one}
+use Prim.Native.Nat.{ℕ, ◌+◌}
 use native.Mathlib.Omega.{arith}
-use lib.ListN.{length, get_or, set, take, length-append}
-use lib.Seq.{take-suc, length-take-le}
+use lib.ListN.{length, drop, replicate, length-append}
+use lib.Seq.{length-take-le}
+use Rattle.std.proofs.lemmas.List.{drop-replicate}
 use Rattle.datagram.specs.Padding.{pad_to}
 use Rattle.datagram.proofs.Padding.{set_pad}
 use Rattle.listener.specs.State.{held_bytes}
 use Rattle.listener.proofs.handed_out.Goals as goal
 
--- one more byte is copied
-copied : (xs : List ℕ) (i : ℕ) → length xs ≡ 17 → i < 17 → set (pad_to 18 (take i xs)) i (get_or xs i 0) ≡ pad_to 18 (take (i + 1) xs)
-copied xs i long h = rw (add-one, take-suc xs i 0 (omega arith)) (set_pad 18 (take i xs) i (get_or xs i 0) (length-take-le i xs (omega arith)) (omega arith))
-
-pub loop-i-init : goal.loop-i-init
+over_zeros : (n : ℕ) (xs : List ℕ) (i : ℕ) → length xs ≡ i → xs ++ drop i (replicate n 0) ≡ pad_to n xs
 unfolding pad_to
-loop-i-init c = search rules
-
-pub loop-i-preserved : goal.loop-i-preserved
-loop-i-preserved c =
-    (search rules, rw c.loop-i.invariant.1 (copied c.args.l.bytes c.loop-i.i (search rules) (omega arith)))
+over_zeros n xs i e = rw (drop-replicate {X = ℕ} i n 0, e)
 
 pub returns : goal.returns
 returns c =
@@ -31,8 +22,6 @@ returns c =
     let b = c.args.byte in
     let long : length l.bytes ≡ 17 = search rules in
     let count : length (held_bytes l) ≡ l.held = length-take-le l.held l.bytes (omega arith) in
-    let all : c.loop-i.i ≡ l.held = omega arith in
-    let bytes : set c.loop-i.out l.held b ≡ pad_to 18 (held_bytes l ++ (b ∷ [])) =
-    rw (c.loop-i.invariant.1, all) (set_pad 18 (held_bytes l) l.held b count (omega arith)) in
     let more : length (held_bytes l ++ (b ∷ [])) ≡ l.held + 1 = simp (length-append, count) in
-    rw (c.empty_listener.ensures, bytes, more)
+    let padded : held_bytes l ++ drop l.held (replicate 18 0) ≡ pad_to 18 (held_bytes l) = over_zeros 18 (held_bytes l) l.held count in
+    rw (c.empty_listener.ensures, c.copy_from_slice.ensures.after, more, ← set_pad 18 (held_bytes l) l.held b count (omega arith), ← padded)

@@ -1,12 +1,9 @@
 -- `put_header` tests the length as the definition does, and puts the line at the front.
-use borrow.Author.Tests.{lt-leb, le-leb}
+use borrow.Author.Tests.{le-leb}
 use native.Mathlib.Omega.{arith}
 use Rattle.listing.specs.Text.{decimal}
 use Rattle.listing.proofs.Put.{put_stored}
 use Rattle.listing.proofs.put_header.Goals as goal
-
-pub returns-then-out-lt512 : goal.returns-then-out-lt512
-returns-then-out-lt512 c = rw (lt-leb _ _ c.if-out-lt512.true)
 
 pub returns : goal.returns
 unfolding decimal

@@ -1,11 +1,7 @@
--- `put_hex` has put the first i bytes after i iterations.
-use Prim.Native.Nat.{◌-◌, ◌≤◌}
-use lib.ListN.{length, take}
+-- `put_hex` has put the bytes before the index.
+use Rattle.std.proofs.Common.{◌≤◌, length, take}
 use Rattle.listing.specs.Text.{Put, spaced_hex}
 use Rattle.listing.proofs.put_hex.Given as goal
 
-abbrev pub invariant-loop-i : goal.invariant-loop-i
-invariant-loop-i l = (l.i ≤ length l.bytes) × Put l.initial.out l.at (spaced_hex (take l.i l.bytes)) l.out l.p
-
-abbrev pub decreases-loop-i : goal.decreases-loop-i
-decreases-loop-i l = length l.bytes - l.i
+abbrev pub invariant-loop-b : goal.invariant-loop-b
+invariant-loop-b l = (l.b-index ≤ length l.bytes) × Put l.initial.out l.at (spaced_hex (take l.b-index l.bytes)) l.out l.p

@@ -1,4 +1,5 @@
 -- `write_record` judges the symbol and the room, and stores the record from the position on.
+use Rattle.std.specs.Prelude.{Ok}
 use borrow.Author.Tests.{le-leb, lt-leb}
 use mathlib.Core.Path.{refl, ap, ◌∙◌}
 use mathlib.Core.List.{append_assoc}
@@ -6,7 +7,6 @@ use Prim.Native.Nat.{◌+◌, ◌-◌}
 use native.Mathlib.Omega.{arith}
 use lib.ListN.{length, take, drop}
 use lib.Seq.{sets-eq}
-use Rattle.datagram.specs.declared.Written.TheVariants.{Wrote}
 use Rattle.datagram.specs.Position.{outcome}
 use Rattle.recording.specs.Record.{record_bytes}
 use Rattle.recorder.specs.Recording.{record_written}
@@ -36,7 +36,7 @@ returns c =
     let room = length a.buf.now in
     let bytes = record_bytes a.time a.symbol in
     rw (le-leb a.symbol 511 (omega arith), le-leb a.at room (omega arith), le-leb 8 (room - a.at) (omega arith))
-    (ap (outcome (Wrote 8))
+    (ap (outcome (Ok 8))
     (c.put_record.ensures
     ∙ sets-eq bytes a.buf.now a.at (omega arith)
     ∙ append_assoc (take a.at a.buf.now) bytes (drop (a.at + 8) a.buf.now)))

@@ -1,16 +1,16 @@
 -- `record_at` makes the definition's tests of the offset, and judges the eight bytes there.
+use Rattle.std.specs.Prelude.{Err}
 use borrow.Author.Tests.{eq-eqb, ne_eqb, le-leb, lt-leb}
 use mathlib.Core.Path.{ap, ◌∙◌}
 use Prim.Native.Nat.{◌-◌}
 use native.Mathlib.Omega.{arith}
 use lib.ListN.{length}
 use Rattle.recording.specs.Record.{record_of}
-use Rattle.recording.specs.declared.Record.TheVariants.{Refused}
 use Rattle.recording.proofs.record_at.Goals as goal
 
 pub returns-then-n-at : goal.returns-then-n-at
 unfolding record_of
-returns-then-n-at c = ap Refused c.cut_short.ensures ∙ rw (lt-leb _ _ c.if-n-at.true)
+returns-then-n-at c = ap Err c.cut_short.ensures ∙ rw (lt-leb _ _ c.if-n-at.true)
 
 pub returns-then-n-at-2 : goal.returns-then-n-at-2
 unfolding record_of

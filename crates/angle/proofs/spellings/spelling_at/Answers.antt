@@ -23,7 +23,7 @@ before_fault k (x ∷ xs) n i e h = go (reads_back k x) refl i e h (before_fault
 
 pub returns : goal.returns
 returns c =
-    let list = c.spelling_list.result in
+    let list = c.spelling_list.result.now in
     let index = c.args.index in
     ap (reads_back index) c.number_at.ensures
     ∙ before_fault 0 list index index (omega arith) (omega (arith, c.spelling_list.ensures, c.requires))

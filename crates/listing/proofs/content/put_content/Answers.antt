@@ -20,16 +20,16 @@ bounds-bytes-0 c =
     let s = c.args.bytes.now in
     omega (arith, declares s (sym c.is_whole.ensures ∙ c.if-not-is_whole.false))
 
-pub returns-in-Unknown : goal.returns-in-Unknown
+pub returns-in_default : goal.returns-in_default
 unfolding read_of
-returns-in-Unknown c =
+returns-in_default c =
     let s = c.args.bytes.now in
     let w : whole s ≡ true = sym c.is_whole.ensures ∙ c.if-not-is_whole.false in
-    let unknown = sym c.find.ensures ∙ c.in-Unknown.is in
-    rw (w, unknown) c.put_refused-in-Unknown.ensures
+    let unknown = sym c.find.ensures ∙ c.in_default.is in
+    rw (w, unknown) c.put_refused-in_default.ensures
 
-pub returns-in-Found : goal.returns-in-Found
-returns-in-Found c =
+pub returns : goal.returns
+returns c =
     let s = c.args.bytes.now in
     let w : whole s ≡ true = sym c.is_whole.ensures ∙ c.if-not-is_whole.false in
-    rw (← of_found_kind s c.in-Found.row w (sym c.find.ensures ∙ c.in-Found.is)) c.put_kind.ensures
+    rw (← of_found_kind s c.in-Some.row w (sym c.find.ensures ∙ c.in-Some.is)) c.put_kind.ensures

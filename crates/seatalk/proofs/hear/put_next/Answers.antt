@@ -4,8 +4,8 @@ use native.Mathlib.Omega.{arith}
 use lib.ListN.{length-set}
 use Rattle.seatalk.proofs.hear.put_next.Goals as goal
 
-pub bounds-state-held : goal.bounds-state-held
-bounds-state-held c = omega (arith, (c.requires.1 c.if-number-eq3.true).few)
+pub bounds-state-l : goal.bounds-state-l
+bounds-state-l c = omega (arith, (c.requires.1 c.if-number-eq3.true).few)
 
 pub bounds-state-0 : goal.bounds-state-0
 bounds-state-0 c = simp length-set (omega arith)

@@ -7,14 +7,11 @@ use native.Mathlib.Omega.{arith}
 use lib.IntN.{ℤ, pos}
 use lib.ListN.{length, take, replicate, length-append, length-replicate}
 use lib.Seq.{take-append_seam}
-use mir.Syntax.{w32}
-use mir.ValLaws.{to_z_pos}
 use Rattle.message.specs.Fields.{fields_of}
 use Rattle.to_fields.specs.declared.Fields.{Fields}
 use Rattle.to_fields.specs.Array.{array_of}
 use Rattle.from_fields.specs.Numbers.{field_bytes, fields_bytes}
 use Rattle.from_fields.proofs.Each.{each_length}
-use Rattle.number.proofs.Signed.{handed}
 use Rattle.seatalk.proofs.Fits.{fields_fit}
 use borrow.Author.Rules.{rules}
 use Rattle.seatalk.proofs.read.put_fields.Goals as goal
@@ -32,12 +29,12 @@ module _ (zs : List ℤ) (f : Fields) (e : f ≡ array_of zs) where
       let all : length f.values ≡ length zs + (12 - length zs) = rw (e, length-append, length-replicate) in
       omega arith
 
-pub returns-then-res-size : goal.returns-then-res-size
-returns-then-res-size c =
+pub returns-then-res-from : goal.returns-then-res-from
+returns-then-res-from c =
     let a = c.args in
     let f = c.fields_of-f in
     let n : f.result.count ≡ length (fields_of a.m) = rw f.ensures in
-    rw (handed w32 c.code_of.type_inv c.code_of.ensures, size (fields_of a.m), lt-leb (4 * length (fields_of a.m)) (length a.res.now) (omega arith))
+    rw (size (fields_of a.m), lt-leb (4 * length (fields_of a.m)) (length a.res.now) (omega arith))
 
 pub store-requires : goal.store-requires
 store-requires c =
@@ -52,4 +49,4 @@ returns c =
     let a = c.args in
     let f = c.fields_of-f in
     let n : f.result.count ≡ length (fields_of a.m) = rw f.ensures in
-    rw (size (fields_of a.m), le-leb (4 * length (fields_of a.m)) (length a.res.now) (omega arith), to_z_pos w32 (4 * f.result.count) (omega arith), c.store.ensures, listed (fields_of a.m) f.result f.ensures, n)
+    rw (size (fields_of a.m), le-leb (4 * length (fields_of a.m)) (length a.res.now) (omega arith), c.store.ensures, listed (fields_of a.m) f.result f.ensures, n)

@@ -1,36 +1,23 @@
 -- `read` places what the reader gives; what is read is in range.
-use Prim.Native.Nat.{ℕ}
-use mathlib.Core.Path.{◌≡◌, refl, sym, ap, ◌∙◌}
-use mathlib.Core.List.{List}
-use mir.Syntax.{w32}
+use Rattle.std.specs.Prelude.{Result}
+use mathlib.Core.Path.{sym, ap, ◌∙◌}
 use Rattle.datagram.specs.declared.Refusal.{Refusal}
-use Rattle.message.specs.declared.Reading.{Reading}
-use Rattle.message.specs.declared.Reading.TheVariants.{Refused}
-use Rattle.message.specs.Reading.{read_of}
+use Rattle.message.specs.declared.Message.{Message}
 use Rattle.roundtrip_laws.proofs.RoundTrip.{round_trip}
-use Rattle.number.proofs.Signed.{handed}
-use Rattle.seatalk.specs.Returned.{returned, code_of}
+use Rattle.std.proofs.lemmas.Result.{err_from_is_err_and}
 use Rattle.seatalk.specs.Read.{read_returned, read_call}
 use Rattle.seatalk.proofs.read.read.Goals as goal
 
--- the reader's refusal comes first, whatever the room
-unread : (bytes result : List ℕ) (r : Refusal) → read_of bytes ≡ Refused r → read_call bytes result ≡ returned (code_of r) result
-unfolding read_call
-unread bytes result r e = ap (λ (v : Reading). read_returned v result) e
-
 pub put_fields-requires : goal.put_fields-requires
-put_fields-requires c = round_trip.read_in_range _ _ (sym c.read.ensures ∙ c.in-Read.is)
+put_fields-requires c = round_trip.read_in_range _ _ (sym c.read.ensures ∙ c.in_ok-m.was)
 
-pub returns-in-Refused : goal.returns-in-Refused
-returns-in-Refused c =
-    let a = c.args in
-    rw (handed w32 c.code_of.type_inv c.code_of.ensures)
-    (sym (unread a.bytes.now a.res.now _ (sym c.read.ensures ∙ c.in-Refused.is)))
-
-pub returns-in-Read : goal.returns-in-Read
+-- the reader's refusal comes first, whatever the room
+pub returns-in_err-m : goal.returns-in_err-m
 unfolding read_call
-returns-in-Read c =
-    let r = c.read in
-    let p = c.put_fields in
-    rw (handed w32 p.type_inv refl, ← r.ensures, c.in-Read.is)
-    p.ensures
+returns-in_err-m c =
+    let p = err_from_is_err_and c.from_residual.result c.from_residual.ensures.1 in
+    rw (p.1, p.2) (ap (λ (v : Result Message Refusal). read_returned v c.args.res.now) (sym (sym c.read.ensures ∙ c.in_err-m.was)))
+
+pub returns : goal.returns
+unfolding read_call
+returns c = c.put_fields.ensures ∙ ap (λ (v : Result Message Refusal). read_returned v c.args.res.now) (sym (sym c.read.ensures ∙ c.in_ok-m.was))

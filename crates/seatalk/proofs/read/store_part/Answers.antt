@@ -1,6 +1,6 @@
 -- `store_part` has laid out the first i fields at each iteration.
 use borrow.Author.Rules.{rules}
-use mathlib.Core.Path.{◌≡◌, refl, ◌∙◌}
+use mathlib.Core.Path.{◌≡◌, refl}
 use mathlib.Core.List.{List, [], ◌∷◌}
 use Prim.Native.Nat.{ℕ, zero, suc, ◌≤◌, ◌<◌}
 use native.Mathlib.Omega.{arith}
@@ -10,7 +10,7 @@ use lib.Seq.{length-take-le, get_or-take}
 use mir.Syntax.{w32, w64}
 use mir.Val.{SFits, to_z, of_z}
 use mir.ValLaws.{to_z-of_z}
-use Rattle.number.proofs.Signed.{wide}
+use Rattle.std.proofs.Math.Facts.{sfits_widen}
 use Rattle.from_fields.specs.Numbers.{AllFit, field_bytes}
 use Rattle.from_fields.proofs.Each.{one_more}
 use Rattle.seatalk.proofs.read.store_part.Goals as goal
@@ -28,10 +28,7 @@ fits zs n i all h long =
 
 -- as the machine reads it back from its bits
 read_back : (z : ℤ) → SFits w32 z → to_z w64 (of_z w64 z) ≡ z
-read_back z h = to_z-of_z w64 z (wide z h)
-
-pub loop-i-init : goal.loop-i-init
-loop-i-init c = (omega arith, (refl, λ buffer same e. e))
+read_back z h = to_z-of_z w64 z (sfits_widen tt h)
 
 pub overflow_cast-f : goal.overflow_cast-f
 overflow_cast-f c =
@@ -40,26 +37,13 @@ overflow_cast-f c =
     let h = fits f.values f.count c.loop-i.i c.requires.1.1.0 (omega arith) (omega arith) in
     rw (read_back (get_or f.values c.loop-i.i (pos 0)) h) h
 
-pub put_long-requires : goal.put_long-requires
-put_long-requires c = omega (arith, c.loop-i.invariant.1.0)
-
 pub loop-i-preserved : goal.loop-i-preserved
 loop-i-preserved c =
     let f = c.args.f in
     let long : length f.values ≡ 12 = search rules in
     let h = fits f.values f.count c.loop-i.i c.requires.1.1.0 (omega arith) (omega arith) in
     let z = get_or f.values c.loop-i.i (pos 0) in
-    let bits : c.bits_of.result ≡ of_z w32 z = rw (read_back z h, to_z-of_z w32 z h) at c.bits_of.ensures in (
-      omega arith,
-      (
-        c.put_long.auto.lent ∙ c.loop-i.invariant.1.0,
-        λ buffer same e.
-            rw (← one_more field_bytes 4 (λ z. refl) f.values c.loop-i.i buffer (pos 0) (omega arith) (omega arith))
-            (rw (bits, c.loop-i.invariant.1.1 buffer same e) at c.put_long.ensures),
-      ),
-    )
-
-pub returns : goal.returns
-returns c =
-    let all : c.loop-i.i ≡ c.args.end = omega arith in
-    rw all at c.loop-i.invariant.1.1
+    let bits : c.bits_of.result ≡ of_z w32 z = rw (read_back z h, to_z-of_z w32 z h) at c.bits_of.ensures in
+    λ buffer same e.
+    rw (← one_more field_bytes 4 (λ z. refl) f.values c.loop-i.i buffer (pos 0) (omega arith) (omega arith))
+    (rw (bits, c.loop-i.invariant buffer same e) at c.put_long.ensures)

@@ -1,32 +1,19 @@
 -- `write` places the message that is named.
-use Prim.Native.Nat.{ℕ}
-use mathlib.Core.Path.{◌≡◌, refl, sym, ap, ◌∙◌}
-use mathlib.Core.List.{List}
-use mir.Syntax.{w32}
+use Rattle.std.specs.Prelude.{Result}
+use mathlib.Core.Path.{sym, ap, ◌∙◌}
 use Rattle.datagram.specs.declared.Refusal.{Refusal}
-use Rattle.from_fields.specs.declared.Naming.{Naming}
-use Rattle.from_fields.specs.declared.Naming.TheVariants.{Refused}
-use Rattle.from_fields.specs.Naming.{named_of}
-use Rattle.number.proofs.Signed.{handed}
-use Rattle.seatalk.specs.Returned.{returned, code_of}
+use Rattle.message.specs.declared.Message.{Message}
+use Rattle.std.proofs.lemmas.Result.{err_from_is_err_and}
 use Rattle.seatalk.specs.Write.{named_returned, write_call}
 use Rattle.seatalk.proofs.write.write.Goals as goal
 
 -- 4, 5 and a bad flag's 7 come first, whatever the room
-unnamed : (command : ℕ) (fields result : List ℕ) (r : Refusal) → named_of command fields ≡ Refused r → write_call command fields result ≡ returned (code_of r) result
+pub returns-in_err-m : goal.returns-in_err-m
 unfolding write_call
-unnamed command fields result r e = ap (λ (v : Naming). named_returned v result) e
+returns-in_err-m c =
+    let p = err_from_is_err_and c.from_residual.result c.from_residual.ensures.1 in
+    rw (p.1, p.2) (ap (λ (v : Result Message Refusal). named_returned v c.args.res.now) (sym (sym c.message_of.ensures ∙ c.in_err-m.was)))
 
-pub returns-in-Refused : goal.returns-in-Refused
-returns-in-Refused c =
-    let a = c.args in
-    rw (handed w32 c.code_of.type_inv c.code_of.ensures)
-    (sym (unnamed a.command a.fields.now a.res.now _ (sym c.message_of.ensures ∙ c.in-Refused.is)))
-
-pub returns-in-Named : goal.returns-in-Named
+pub returns : goal.returns
 unfolding write_call
-returns-in-Named c =
-    let r = c.message_of in
-    let p = c.put_symbols in
-    rw (handed w32 p.type_inv refl, ← r.ensures, c.in-Named.is)
-    p.ensures
+returns c = c.put_symbols.ensures ∙ ap (λ (v : Result Message Refusal). named_returned v c.args.res.now) (sym (sym c.message_of.ensures ∙ c.in_ok-m.was))
