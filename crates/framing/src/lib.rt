@@ -69,6 +69,7 @@ fn carries(input: &[u8], at: usize, command: u8) -> bool
 
 // What the records from an offset on give: the bytes of a datagram that lies whole in them, which are stored, a datagram
 // that a command symbol cancels, or a stray symbol; none where they have to be heard one by one, or the listener is not empty.
+// The bytes lent may be of any length, and the listener in any state: what is asked of a caller stays as little as it was.
 pub fn gather(empty: bool, input: &[u8], at: usize, bytes: &mut [u8]) -> Option<Gathered>
     ensures { IfSome result (λ g. (empty ≡ true) × GatherStep input.now at bytes.new g) }
 {
@@ -104,6 +105,7 @@ pub fn gather(empty: bool, input: &[u8], at: usize, bytes: &mut [u8]) -> Option<
     Some(taken(n, n, time, false, false))
 }
 
+// A function, since the literal takes seven lines at each of its calls. The flags are those that `tally` takes.
 fn taken(used: usize, count: usize, time: u32, cancelled: bool, stray: bool) -> Gathered
     ensures { result ≡ (record { used = used; count = count; time = time; cancelled = cancelled; stray = stray }) }
 {

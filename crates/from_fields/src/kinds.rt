@@ -6,7 +6,7 @@ ghost use Rattle.from_fields.specs.Naming.{count_of, flags_of, bad_flag, message
 use crate::numbers::{natural_at, on_at, signed_at};
 use message::{Kind, Message};
 
-// How many fields the kind has.
+// How many fields the kind has. `to_fields` has as many in each array; that they agree is a law (`named_back`).
 #[tactic(auto, unfolding(crate::specs::Naming::count_of))]
 pub fn count_of(kind: Kind) -> u8
     ensures { result ≡ count_of kind }

@@ -51,6 +51,7 @@ pub fn list_block(progress: Progress, input: &[u8], out: &mut [u8]) -> Listed
     listed(p, at, written, None)
 }
 
+// A function, since the literal takes six lines at each of its calls.
 fn listed(progress: Progress, used: usize, written: usize, stop: Option<Refusal>) -> Listed
     ensures { result ≡ (record { progress = progress; used = used; written = written; stop = stop }) }
 {

@@ -6,6 +6,7 @@ use crate::Message;
 use datagram::Refusal;
 use datagram::refusals::out_of_range;
 
+// Three tests and no generic one: each is held to its own definition, and its name says which bounds are tested.
 fn at_most(field: u8, limit: u32, n: u32) -> Result<(), Refusal>
     ensures { result ≡ at_most field limit n }
 {

@@ -1,4 +1,4 @@
--- What is carried from block to block of a listing: the listener and the counts, and whether the listing goes on
+-- What is carried from block to block of a listing: the listener and the counts; and what refuses the bytes where it ends
 -- (rules 10.1, 10.3).
 use Rattle.std.specs.Prelude.{ℕ, ◌+◌, ◌%◌, ◌^◌, Bool, true, false, Result, Option, Ok, Err, Some, None}
 use Rattle.listener.specs.declared.Heard.{Heard}

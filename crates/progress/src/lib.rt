@@ -1,4 +1,4 @@
-// What is carried from block to block of a listing: the listener, the counts, and whether the listing goes on.
+// What is carried from block to block of a listing: the listener and the counts; and what refuses the bytes where it ends.
 #![tactic(auto)]
 
 ghost use Rattle.std.specs.Prelude.{◌≡◌};

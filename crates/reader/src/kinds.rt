@@ -30,7 +30,7 @@ pub fn depth(yz: u8, low: u8, high: u8) -> Result<Message, Refusal>
 pub fn wind_angle(xx: u8, yy: u8) -> Result<Message, Refusal>
     ensures { result ≡ judged (wind_angle_of xx yy) }
 {
-    let halves = 256 * (xx as u32) + yy as u32;
+    let halves = word_of(yy, xx);
     if 719 < halves {
         return Err(out_of_range(1));
     }
@@ -43,7 +43,7 @@ pub fn wind_speed(xx: u8, y: u8) -> Result<Message, Refusal>
 {
     if y % 16 <= 9 {
         Ok(Message::WindSpeed {
-            tenths: 10 * (xx as u32 % 128) + y as u32 % 16,
+            tenths: 10 * (u32::from(xx) % 128) + u32::from(y) % 16,
             metres: xx / 128 % 2 == 1,
         })
     } else {
@@ -65,7 +65,7 @@ pub fn trip(low: u8, high: u8, x: u8) -> Result<Message, Refusal>
     ensures { result ≡ judged (trip_of low high x) }
 {
     Ok(Message::Trip {
-        hundredths: word_of(low, high) + 65536 * (x as u32 % 16),
+        hundredths: word_of(low, high) + 65536 * (u32::from(x) % 16),
     })
 }
 
@@ -83,8 +83,8 @@ pub fn logs(z4: u8, xx: u8, yy: u8, uu: u8, vv: u8, aw: u8) -> Result<Message, R
     ensures { result ≡ judged (logs_of z4 xx yy uu vv aw) }
 {
     Ok(Message::Logs {
-        total: word_of(xx, yy) + 65536 * (z4 as u32 / 16),
-        trip: word_of(uu, vv) + 65536 * (aw as u32 % 16),
+        total: word_of(xx, yy) + 65536 * (u32::from(z4) / 16),
+        trip: word_of(uu, vv) + 65536 * (u32::from(aw) % 16),
     })
 }
 
@@ -106,7 +106,7 @@ pub fn water(low: u8, high: u8) -> Result<Message, Refusal>
     ensures { result ≡ judged (water_of low high) }
 {
     Ok(Message::Water {
-        tenths: difference(low as u16 + 256 * (high as u16), 100),
+        tenths: difference(u16::from_le_bytes([low, high]), 100),
     })
 }
 
@@ -116,7 +116,7 @@ pub fn lamp(x: u8) -> Result<Message, Refusal>
 {
     if x % 4 == 0 {
         Ok(Message::Lamp {
-            level: x as u32 % 16 / 4,
+            level: u32::from(x) % 16 / 4,
         })
     } else {
         Err(out_of_range(1))
@@ -130,7 +130,7 @@ pub fn latitude(xx: u8, low: u8, high: u8) -> Result<Message, Refusal>
     let hundredths = word_of(low, high % 128);
     degrees_up_to(90, xx, hundredths)?;
     Ok(Message::Latitude {
-        degrees: xx as u32,
+        degrees: u32::from(xx),
         hundredths,
         south: high / 128 % 2 == 1,
     })
@@ -143,7 +143,7 @@ pub fn longitude(xx: u8, low: u8, high: u8) -> Result<Message, Refusal>
     let hundredths = word_of(low, high % 128);
     degrees_up_to(180, xx, hundredths)?;
     Ok(Message::Longitude {
-        degrees: xx as u32,
+        degrees: u32::from(xx),
         hundredths,
         east: high / 128 % 2 == 1,
     })
@@ -188,8 +188,8 @@ pub fn course(u0: u8, vw: u8) -> Result<Message, Refusal>
 pub fn time(t1: u8, rs: u8, hh: u8) -> Result<Message, Refusal>
     ensures { result ≡ judged (time_of t1 rs hh) }
 {
-    let minutes = rs as u32 / 4;
-    let seconds = rs as u32 % 4 * 16 + t1 as u32 / 16;
+    let minutes = u32::from(rs) / 4;
+    let seconds = u32::from(rs) % 4 * 16 + u32::from(t1) / 16;
     if 23 < hh {
         return Err(out_of_range(1));
     }
@@ -200,7 +200,7 @@ pub fn time(t1: u8, rs: u8, hh: u8) -> Result<Message, Refusal>
         return Err(out_of_range(3));
     }
     Ok(Message::Time {
-        hours: hh as u32,
+        hours: u32::from(hh),
         minutes,
         seconds,
     })
@@ -210,7 +210,7 @@ pub fn time(t1: u8, rs: u8, hh: u8) -> Result<Message, Refusal>
 pub fn date(m1: u8, dd: u8, yy: u8) -> Result<Message, Refusal>
     ensures { result ≡ judged (date_of m1 dd yy) }
 {
-    let month = m1 as u32 / 16;
+    let month = u32::from(m1) / 16;
     if month < 1 || 12 < month {
         return Err(out_of_range(1));
     }
@@ -222,8 +222,8 @@ pub fn date(m1: u8, dd: u8, yy: u8) -> Result<Message, Refusal>
     }
     Ok(Message::Date {
         month,
-        day: dd as u32,
-        year: yy as u32,
+        day: u32::from(dd),
+        year: u32::from(yy),
     })
 }
 
@@ -251,8 +251,8 @@ pub fn pilot(
         off_course: m / 4 % 2 == 1,
         wind_shift: m / 8 % 2 == 1,
         rudder: signed_byte(rr),
-        ss: ss as u32,
-        tt: tt as u32,
+        ss: u32::from(ss),
+        tt: u32::from(tt),
     })
 }
 
@@ -273,10 +273,10 @@ fn angles_spelled(field: u8, vw: u8, xy: u8) -> Result<(), Refusal>
 pub fn key(x1: u8, code: u8, repeat: u8) -> Result<Message, Refusal>
     ensures { result ≡ judged (key_of x1 code repeat) }
 {
-    if code as u32 + repeat as u32 == 255 {
+    if u32::from(code) + u32::from(repeat) == 255 {
         Ok(Message::Key {
-            source: x1 as u32 / 16,
-            code: code as u32,
+            source: u32::from(x1) / 16,
+            code: u32::from(code),
         })
     } else {
         Err(BAD_REPEAT)

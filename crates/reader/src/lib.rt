@@ -4,38 +4,30 @@
 mod kinds;
 
 ghost use Rattle.std.specs.Prelude.{◌≡◌, get_or};
-ghost use Rattle.message.specs.Reading.{read_of, read_kind, read_as, read_sized, judged};
+ghost use Rattle.message.specs.Reading.{read_of, read_kind, read_sized, judged};
 ghost use Rattle.reader.specs.OfKind.{read_of_kind};
 
 use datagram::Refusal;
 use datagram::refusals::{NOT_WHOLE, UNKNOWN_COMMAND, WRONG_LENGTH};
-use message::{Kind, Message, Row};
+use message::{Kind, Message};
 
 // Reads any bytes: the message, or refusal 3, 4, 5, 6 or 7, in that order.
 #[tactic(auto, unfolding(message::specs::Reading::read_of))]
 pub fn read(bytes: &[u8]) -> Result<Message, Refusal>
     ensures { result ≡ read_of bytes.now }
 {
-    if datagram::is_whole(bytes) {
-        read_as(message::find(byte_at(bytes, 0)), bytes)
-    } else {
-        Err(NOT_WHOLE)
+    if !datagram::is_whole(bytes) {
+        return Err(NOT_WHOLE);
     }
+    let row = message::find(byte_at(bytes, 0)).ok_or(UNKNOWN_COMMAND)?;
+    read_sized(row.kind, row.length, bytes)
 }
 
-// Byte i, or 0 past the end.
+// Byte i, or 0 past the end: `read_kind` goes by it, as its definition does, whatever the length.
 fn byte_at(bytes: &[u8], i: usize) -> u8
     ensures { result ≡ get_or bytes.now i 0 }
 {
     bytes.get(i).copied().unwrap_or(0)
-}
-
-// Reads a whole datagram by the row that its command was found at: the message, or refusal 4, 5, 6 or 7.
-fn read_as(found: Option<Row>, bytes: &[u8]) -> Result<Message, Refusal>
-    ensures { result ≡ read_as found bytes.now }
-{
-    let row = found.ok_or(UNKNOWN_COMMAND)?;
-    read_sized(row.kind, row.length, bytes)
 }
 
 // Reads any bytes as a datagram of this kind: the message, or refusal 3, 4, 5, 6 or 7, in that order; 4 where the command is

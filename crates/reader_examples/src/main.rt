@@ -97,10 +97,7 @@ fn show_all(rt: &HostRuntime, rows: &[Row])
 fn refusal_of(reading: Result<Message, Refusal>) -> Option<u8>
     ensures { result ≡ refusal_in (outcome_of reading) }
 {
-    match reading {
-        Ok(_) => None,
-        Err(r) => Some(r.number),
-    }
+    reading.err().map(|r| r.number)
 }
 
 // A failed write is passed over.

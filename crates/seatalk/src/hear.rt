@@ -23,7 +23,8 @@ fn number_of(answer: Answer) -> Result<u8, Refusal>
     }
 }
 
-// The listener that 18 bytes are.
+// The listener that 18 bytes are. The state stays a slice with its length in the clauses: C lends one of any length, and what is left in it
+// is promised of that slice.
 fn listener_of(state: &[u8]) -> Listener
     requires { length state.now ≡ 18 }
     ensures { result ≡ listener_of state.now }
@@ -55,12 +56,12 @@ fn put_result(number: u8, h: Heard, res: &mut [u8])
     put(res, 2, &h.bytes);
 }
 
-// Stores the next state. One more byte held, answer 3, changes two bytes of it alone.
-fn put_next(number: u8, byte: u8, l: Listener, state: &mut [u8])
-    requires { (length state.old ≡ 18) × (number ≡ 3 → Longer byte l state.old) }
+// Stores the next state. A byte that is kept changes two bytes of it alone.
+fn put_next(answer: Answer, byte: u8, l: Listener, state: &mut [u8])
+    requires { (length state.old ≡ 18) × (answer ≡ Answer.Kept → Longer byte l state.old) }
     ensures { state.new ≡ state_of l }
 {
-    if number == 3 {
+    if let Answer::Kept = answer {
         state[l.held as usize] = byte;
         state[0] = l.held;
     } else {
@@ -77,7 +78,7 @@ fn answer(h: Heard, symbol: u16, state: &mut [u8], res: &mut [u8]) -> Result<u8,
     if res.len() < 20 {
         return Err(NO_ROOM);
     }
-    put_next(number, (symbol % 256) as u8, h.listener, state);
+    put_next(h.answer, (symbol % 256) as u8, h.listener, state);
     put_result(number, h, res);
     Ok(20)
 }

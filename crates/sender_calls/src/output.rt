@@ -1,4 +1,4 @@
-// What is written is collected in a buffer.
+// What is written is collected in a buffer: an array and how far it is filled, since there is no heap.
 ghost use Rattle.std.specs.Prelude.{◌≡◌, ◌≤◌};
 
 use std::fmt;

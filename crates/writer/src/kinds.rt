@@ -1,8 +1,8 @@
 // Each kind's writer: the bytes that spell its fields, stored as symbols in the lent part.
 ghost use Rattle.std.specs.Prelude.{◌≡◌, [], ◌∷◌, ◌+◌, ◌*◌, ◌/◌, ◌%◌};
-ghost use Rattle.number.specs.Word.{low_byte, num};
+ghost use Rattle.number.specs.Word.{low_byte, high_byte, num};
 ghost use Rattle.datagram.specs.Position.{outcome};
-ghost use Rattle.message.specs.Spelling.{depth_bytes, wind_angle_bytes, wind_speed_bytes, speed_bytes, trip_bytes, total_bytes, logs_bytes, speeds_bytes, water_bytes, lamp_bytes, latitude_bytes, longitude_bytes, ground_bytes, course_bytes, time_bytes, date_bytes, pilot_bytes, key_bytes, heading_bytes, variation_bytes, turn_bytes};
+ghost use Rattle.message.specs.Spelling.{depth_bytes, wind_angle_bytes, wind_speed_bytes, trip_bytes, total_bytes, logs_bytes, speeds_bytes, water_bytes, lamp_bytes, course_bytes, time_bytes, date_bytes, pilot_bytes, key_bytes, heading_bytes, variation_bytes, turn_bytes};
 ghost use Rattle.writer.specs.Writing.{store_of};
 
 use crate::store::store;
@@ -44,11 +44,12 @@ pub fn wind_speed(part: &mut [u16], tenths: u32, metres: bool) -> Result<usize, 
     store(part, 0x11, [0x01, xx, (tenths % 10) as u8])
 }
 
-pub fn speed(part: &mut [u16], tenths: u32) -> Result<usize, Refusal>
-    ensures { outcome result part.new ≡ store_of (speed_bytes tenths) part.old }
+// A word, of any command.
+pub fn word(part: &mut [u16], command: u8, n: u32) -> Result<usize, Refusal>
+    ensures { outcome result part.new ≡ store_of (command ∷ 0x01 ∷ low_byte n ∷ high_byte n ∷ []) part.old }
 {
-    let [low, high, ..] = tenths.to_le_bytes();
-    store(part, 0x20, [0x01, low, high])
+    let [low, high, ..] = n.to_le_bytes();
+    store(part, command, [0x01, low, high])
 }
 
 pub fn trip(part: &mut [u16], hundredths: u32) -> Result<usize, Refusal>
@@ -102,30 +103,8 @@ pub fn lamp(part: &mut [u16], level: u32) -> Result<usize, Refusal>
     store(part, 0x30, [0x00, 4 * ((level % 4) as u8)])
 }
 
-pub fn latitude(
-    part: &mut [u16],
-    degrees: u32,
-    hundredths: u32,
-    south: bool,
-) -> Result<usize, Refusal>
-    ensures { outcome result part.new ≡ store_of (latitude_bytes degrees hundredths south) part.old }
-{
-    coordinate(part, 0x50, degrees, hundredths, south)
-}
-
-pub fn longitude(
-    part: &mut [u16],
-    degrees: u32,
-    hundredths: u32,
-    east: bool,
-) -> Result<usize, Refusal>
-    ensures { outcome result part.new ≡ store_of (longitude_bytes degrees hundredths east) part.old }
-{
-    coordinate(part, 0x51, degrees, hundredths, east)
-}
-
-// The degrees, and the hundredths of a minute with the side above them.
-fn coordinate(
+// The degrees, and the hundredths of a minute with the side above them, of any command.
+pub fn coordinate(
     part: &mut [u16],
     command: u8,
     degrees: u32,
@@ -134,24 +113,13 @@ fn coordinate(
 ) -> Result<usize, Refusal>
     ensures { outcome result part.new ≡ store_of (command ∷ 0x02 ∷ (degrees % 256) ∷ low_byte hundredths ∷ (hundredths / 256 % 128 + 128 * num side) ∷ []) part.old }
 {
+    let [xx, ..] = degrees.to_le_bytes();
     let [low, high, ..] = hundredths.to_le_bytes();
     store(
         part,
         command,
-        [
-            0x02,
-            (degrees % 256) as u8,
-            low,
-            high % 128 + 128 * flag(side),
-        ],
+        [0x02, xx, low, high % 128 + 128 * flag(side)],
     )
-}
-
-pub fn ground(part: &mut [u16], tenths: u32) -> Result<usize, Refusal>
-    ensures { outcome result part.new ≡ store_of (ground_bytes tenths) part.old }
-{
-    let [low, high, ..] = tenths.to_le_bytes();
-    store(part, 0x52, [0x01, low, high])
 }
 
 pub fn course(part: &mut [u16], halves: u32) -> Result<usize, Refusal>
@@ -166,16 +134,20 @@ pub fn time(part: &mut [u16], hours: u32, minutes: u32, seconds: u32) -> Result<
 {
     let t1 = 16 * ((seconds % 16) as u8) + 1;
     let rs = 4 * ((minutes % 64) as u8) + (seconds / 16 % 4) as u8;
-    store(part, 0x54, [t1, rs, (hours % 256) as u8])
+    let [hh, ..] = hours.to_le_bytes();
+    store(part, 0x54, [t1, rs, hh])
 }
 
 pub fn date(part: &mut [u16], month: u32, day: u32, year: u32) -> Result<usize, Refusal>
     ensures { outcome result part.new ≡ store_of (date_bytes month day year) part.old }
 {
     let m1 = 16 * ((month % 16) as u8) + 1;
-    store(part, 0x56, [m1, (day % 256) as u8, (year % 256) as u8])
+    let [dd, ..] = day.to_le_bytes();
+    let [yy, ..] = year.to_le_bytes();
+    store(part, 0x56, [m1, dd, yy])
 }
 
+// A parameter for each field of the message: a struct of them would be the variant again.
 pub fn pilot(
     part: &mut [u16],
     degrees: u32,
@@ -197,26 +169,19 @@ pub fn pilot(
     let z = 2 * flag(auto) + 4 * flag(vane) + 8 * flag(track);
     let m = 4 * flag(off_course) + 8 * flag(wind_shift);
     let [rr, ..] = rudder.to_le_bytes();
+    let [ss, ..] = ss.to_le_bytes();
+    let [tt, ..] = tt.to_le_bytes();
     store(
         part,
         0x84,
-        [
-            16 * a.u + 6,
-            a.six + 64 * c.quarter,
-            c.xy,
-            z,
-            m,
-            rr,
-            (ss % 256) as u8,
-            (tt % 256) as u8,
-        ],
+        [16 * a.u + 6, a.six + 64 * c.quarter, c.xy, z, m, rr, ss, tt],
     )
 }
 
 pub fn key(part: &mut [u16], source: u32, code: u32) -> Result<usize, Refusal>
     ensures { outcome result part.new ≡ store_of (key_bytes source code) part.old }
 {
-    let yy = (code % 256) as u8;
+    let [yy, ..] = code.to_le_bytes();
     store(part, 0x86, [16 * ((source % 16) as u8) + 1, yy, 255 - yy])
 }
 

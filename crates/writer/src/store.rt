@@ -13,6 +13,7 @@ pub fn store<const N: usize>(part: &mut [u16], command: u8, rest: [u8; N]) -> Re
         return Err(NO_ROOM);
     }
     part[0] = 256 + u16::from(command);
+    // By index: of parts lent to an iterator nothing is known of the whole afterwards.
     for i in 0..N {
         part[i + 1] = u16::from(rest[i]);
     }

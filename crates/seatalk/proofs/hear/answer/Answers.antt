@@ -1,9 +1,10 @@
 -- `answer` stores both where the definition does, and else only answers the refusal.
 use Rattle.std.specs.Prelude.{Ok, Err}
 use borrow.Author.Tests.{le-leb, lt-leb}
-use mathlib.Core.Path.{◌≡◌, sym, ◌∙◌}
+use mathlib.Core.Path.{◌≡◌, sym, ap, ◌∙◌}
 use lib.ListN.{length}
 use Rattle.std.proofs.lemmas.Result.{err_from_is_err_and}
+use Rattle.listener.specs.declared.Heard.{Heard}
 use Rattle.seatalk.specs.Hear.{number_of}
 use Rattle.seatalk.proofs.Kept.{one_longer}
 use Rattle.seatalk.proofs.hear.answer.Goals as goal
@@ -24,7 +25,7 @@ pub put_next-requires : goal.put_next-requires
 put_next-requires c =
     let a = c.args in
     let p = c.requires in
-    (p.0, λ e. rw p.1 (one_longer a.state.now a.symbol p.0 (rw (p.1, e) at (sym c.number_of.ensures ∙ c.in_ok-number.was))))
+    (p.0, λ e. rw p.1 (one_longer a.state.now a.symbol p.0 (ap number_of (ap (λ (h : Heard). h.answer) (sym p.1) ∙ e))))
 
 pub returns : goal.returns
 returns c =
