@@ -30,7 +30,8 @@ pub struct Quarter {
 pub fn half_angle(u: u8, six: u8) -> u32
     ensures { result ≡ half_angle u six }
 {
-    180 * (u as u32 % 4) + 4 * (six as u32) + u as u32 / 4 % 4
+    let u = u32::from(u);
+    180 * (u % 4) + 4 * u32::from(six) + u / 4 % 4
 }
 
 // The spelling of half degrees.
@@ -47,7 +48,8 @@ pub fn half_digits(halves: u32) -> Digits
 pub fn whole_angle(u: u8, six: u8) -> u32
     ensures { result ≡ whole_angle u six }
 {
-    (90 * (u as u32 % 4) + 2 * (six as u32) + (u as u32 / 8 % 2 + u as u32 / 4 % 2)) % 360
+    let u = u32::from(u);
+    (90 * (u % 4) + 2 * u32::from(six) + (u / 8 % 2 + u / 4 % 2)) % 360
 }
 
 // Whether U says that the ship turns right.
@@ -94,7 +96,7 @@ fn in_circle(degrees: u32) -> u32
 pub fn quarter_angle(quarter: u8, xy: u8) -> u32
     ensures { result ≡ quarter_angle quarter xy }
 {
-    180 * (quarter as u32) + xy as u32
+    180 * u32::from(quarter) + u32::from(xy)
 }
 
 // The spelling of half degrees by quarters.

@@ -50,7 +50,7 @@ pub fn read_of(kind: Kind, bytes: &[u8]) -> Result<Message, Refusal>
 fn read_sized(kind: Kind, size: u8, bytes: &[u8]) -> Result<Message, Refusal>
     ensures { result ≡ read_sized kind size bytes.now }
 {
-    if bytes.len() == size as usize {
+    if bytes.len() == usize::from(size) {
         read_kind(kind, bytes)
     } else {
         Err(WRONG_LENGTH)

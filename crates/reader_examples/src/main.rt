@@ -110,7 +110,12 @@ fn write_line(rt: &HostRuntime, number: usize, bytes: &[u8], reading: Result<Mes
         Ok(m) => {
             let _ = print!(rt; " reads {:02X}:", message::command_of(m));
             let fields = to_fields::fields_of(m);
-            for (i, z) in fields.values.iter().take(fields.count as usize).enumerate() {
+            for (i, z) in fields
+                .values
+                .iter()
+                .take(usize::from(fields.count))
+                .enumerate()
+            {
                 let _ = print!(rt; "{}{z}", if i == 0 { " " } else { ", " });
             }
         }

@@ -28,6 +28,6 @@ fn code_of(w: Result<usize, Refusal>) -> u64
 {
     match w {
         Ok(n) => n as u64,
-        Err(r) => u64::MAX - (r.number as u64 + 256 * (r.place % 16777216)),
+        Err(r) => u64::MAX - (u64::from(r.number) + 256 * (r.place % 16777216)),
     }
 }

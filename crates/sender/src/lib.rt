@@ -12,7 +12,7 @@ use datagram::refusals::{BAD_WAIT_OR_LIMIT, NOT_SOUND, NOT_WHOLE, SYMBOL_ABOVE};
 // Bit times of silence before a sender starts, where its offer says 0.
 pub const DEFAULT_WAIT: u8 = 10;
 
-// What a sender is doing, by number as rules 7.3 has it.
+// What a sender is doing; the variants stand in the order of the numbers of rules 7.3.
 #[derive(Clone, Copy)]
 pub enum Phase {
     Waiting,
@@ -73,7 +73,11 @@ pub fn offer(bytes: &[u8], wait: u32, limit: u32) -> Offered
     if !datagram::is_whole(bytes) {
         return refused_offer(NOT_WHOLE);
     }
-    let wait = if wait == 0 { DEFAULT_WAIT as u32 } else { wait };
+    let wait = if wait == 0 {
+        u32::from(DEFAULT_WAIT)
+    } else {
+        wait
+    };
     if wait < 10 || 255 < wait || limit < 1 || 50 < limit {
         return refused_offer(BAD_WAIT_OR_LIMIT);
     }
@@ -132,7 +136,7 @@ pub fn is_sound(s: Sender) -> bool
     10 <= s.wait
         && 1 <= s.limit
         && s.limit <= 50
-        && datagram::zeros_from(&s.datagram, length_of(s) as usize)
+        && datagram::zeros_from(&s.datagram, usize::from(length_of(s)))
         && phase_sound(s)
 }
 
@@ -156,14 +160,11 @@ fn length_of(s: Sender) -> u8
 
 // The symbol at a position of the datagram.
 fn symbol_at(s: Sender, position: u8) -> u16
-    ensures { position < length_of s → result ≡ symbol_at s position }
+    requires { position < length_of s }
+    ensures { result ≡ symbol_at s position }
 {
-    let byte = s.datagram.get(position as usize).copied().unwrap_or(0);
-    if position == 0 {
-        256 + byte as u16
-    } else {
-        byte as u16
-    }
+    let byte = u16::from(s.datagram[usize::from(position)]);
+    if position == 0 { 256 + byte } else { byte }
 }
 
 // Kept, since the literal takes four lines at each of its calls.
@@ -205,7 +206,7 @@ fn padded(bytes: &[u8]) -> [u8; 18]
 fn started(s: Sender, silence: u32) -> Outcome
     ensures { result ≡ polled Phase.Waiting s silence }
 {
-    let wait = s.wait as u32;
+    let wait = u32::from(s.wait);
     if silence < wait {
         return answered(Answer::Wait(wait - silence), s);
     }

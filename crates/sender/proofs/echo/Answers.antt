@@ -10,7 +10,7 @@ pub returns-in-Awaiting : goal.returns-in-Awaiting
 unfolding echo_of
 returns-in-Awaiting c =
     let s = c.args.s in
-    let here = c.symbol_at.ensures (awaits s (cc) c.in-Awaiting.is).0 in
+    let here = c.symbol_at.ensures in
     let right : c.args.symbol ≡ symbol_at s s.position = omega arith in
     grind arith
 
@@ -18,6 +18,6 @@ pub returns-in-Awaiting-2 : goal.returns-in-Awaiting-2
 unfolding echo_of
 returns-in-Awaiting-2 c =
     let s = c.args.s in
-    let here = c.symbol_at.ensures (awaits s (cc) c.in-Awaiting.is).0 in
+    let here = c.symbol_at.ensures in
     let wrong : c.args.symbol ≢ symbol_at s s.position = λ e. omega arith in
     grind (arith, common_steps)
