@@ -50,6 +50,7 @@ fn put_fields(m: Message, res: &mut [u8]) -> Result<u8, Refusal>
     Ok(size)
 }
 
+#[tactic(auto, unfolding(crate::specs::Read::read_call))]
 pub fn read(bytes: &[u8], res: &mut [u8]) -> Result<u8, Refusal>
     ensures { returned (told result) res.new ≡ read_call bytes.now res.old }
 {

@@ -47,6 +47,7 @@ fn put_symbols(m: Message, res: &mut [u8]) -> Result<u8, Refusal>
     Ok(size as u8)
 }
 
+#[tactic(auto, unfolding(crate::specs::Write::write_call))]
 pub fn write(command: u32, fields: &[u8], res: &mut [u8]) -> Result<u8, Refusal>
     ensures { returned (told result) res.new ≡ write_call command fields.now res.old }
 {
