@@ -12,14 +12,15 @@ ghost use Rattle.angle.specs.Quarter.{quarter_angle, quarter_digits};
 
 use spellings::spelling_at;
 
-// The digit U and the six low bits of VW that spell an angle.
+// The digit U and the six low bits of VW that spell an angle. Free functions make and read it: public calls, which methods would say
+// twice.
 #[derive(Clone, Copy)]
 pub struct Digits {
     pub u: u8,
     pub six: u8,
 }
 
-// The two high bits of VW, and XY, that spell half degrees by quarters.
+// The two high bits of VW, and XY, that spell half degrees by quarters; free functions, as for `Digits`.
 #[derive(Clone, Copy)]
 pub struct Quarter {
     pub quarter: u8,
@@ -63,11 +64,8 @@ pub fn turns_right(u: u8) -> bool
 pub fn whole_digits(degrees: u32, right: bool) -> Digits
     ensures { result ≡ whole_digits degrees right }
 {
-    let spelling = spelling_at(index_of(degrees, right));
-    Digits {
-        u: (spelling / 256) as u8,
-        six: (spelling % 256) as u8,
-    }
+    let [six, u] = spelling_at(index_of(degrees, right)).to_le_bytes();
+    Digits { u, six }
 }
 
 // Where the list has a degree with its turning way.

@@ -27,8 +27,9 @@ impl fmt::Display for Fault {
 }
 
 #[derive(Drop)]
-struct Listing<'a> {
-    rt: &'a HostRuntime,
+struct Listing<R, W> {
+    from: R,
+    to: W,
     input: [u8; 65536],
     out: [u8; 131072],
     progress: Progress,
@@ -40,7 +41,8 @@ struct Listing<'a> {
 
 fn main(rt: HostRuntime) {
     let mut listing = Listing {
-        rt: &rt,
+        from: rt.stdin(),
+        to: rt.stdout(),
         input: [0; 65536],
         out: [0; 131072],
         progress: begin(),
@@ -52,7 +54,7 @@ fn main(rt: HostRuntime) {
     }
 }
 
-impl<'a> Listing<'a> {
+impl<R: Read, W: Write> Listing<R, W> {
     fn run(&mut self) -> Result<(), Fault> {
         let header = listing::put_header(&mut self.out);
         self.write(header)?;
@@ -71,7 +73,7 @@ impl<'a> Listing<'a> {
         if 8 <= self.held {
             return Ok(true);
         }
-        match self.rt.stdin().read(&mut self.input[self.held..]) {
+        match self.from.read(&mut self.input[self.held..]) {
             Ok(0) => {
                 let last = put_last(
                     self.progress,
@@ -112,10 +114,10 @@ impl<'a> Listing<'a> {
         Ok(true)
     }
 
-    // Writes the first n bytes to standard output, however often a signal interrupts it.
+    // Writes the first n bytes, however often a signal interrupts it.
     fn write(&mut self, n: usize) -> Result<(), Fault>
         requires { n ≤ 131072 }
     {
-        Write::write_all(&mut self.rt.stdout(), &self.out[..n]).map_err(Fault::Output)
+        self.to.write_all(&self.out[..n]).map_err(Fault::Output)
     }
 }

@@ -21,7 +21,7 @@ pub fn is_whole(bytes: &[u8]) -> bool
     ensures { result ≡ whole bytes.now }
 {
     let n = bytes.len();
-    3 <= n && n <= 18 && n == 3 + bytes[1] as usize % 16
+    3 <= n && n <= 18 && n == 3 + usize::from(bytes[1]) % 16
 }
 
 // Whether every byte from a position on is 0: eight at a time, the last eight where fewer are left, which may be seen twice. An
@@ -37,12 +37,10 @@ pub fn zeros_from(bytes: &[u8], from: usize) -> bool
     if last < from {
         return zeros_one_by_one(bytes, from);
     }
-    let mut i = from;
-    while i < last {
+    for i in (from..last).step_by(8) {
         if eight(bytes, i) != 0 {
             return false;
         }
-        i += 8;
     }
     eight(bytes, last) == 0
 }

@@ -4,6 +4,18 @@ ghost use Rattle.datagram.specs.Refusals.{refusal_at, out_of_range, no_mark, cut
 
 use crate::Refusal;
 
+impl Refusal {
+    // The refusal as the recording reader tells it, whose place is the record's offset.
+    fn at(self, offset: usize) -> Refusal
+        ensures { result ≡ refusal_at self.number offset }
+    {
+        Refusal {
+            place: offset as u64,
+            ..self
+        }
+    }
+}
+
 pub const SYMBOL_ABOVE: Refusal = Refusal {
     number: 1,
     place: 0,
@@ -13,7 +25,7 @@ pub const SYMBOL_ABOVE: Refusal = Refusal {
 pub fn symbol_above_at(offset: usize) -> Refusal
     ensures { result ≡ symbol_above_at offset }
 {
-    refusal_at(SYMBOL_ABOVE.number, offset)
+    SYMBOL_ABOVE.at(offset)
 }
 
 pub const NOT_SOUND: Refusal = Refusal {
@@ -41,7 +53,8 @@ pub const BAD_REPEAT: Refusal = Refusal {
     place: 0,
 };
 
-// A field out of range; fields are counted from 1 in table order.
+// A field out of range; fields are counted from 1 in table order. The rules tell the number alone; the definition and every caller
+// name the field too.
 pub fn out_of_range(field: u8) -> Refusal
     ensures { result ≡ out_of_range field }
 {
@@ -61,11 +74,16 @@ pub const BAD_WAIT_OR_LIMIT: Refusal = Refusal {
     place: 0,
 };
 
+const NO_MARK: Refusal = Refusal {
+    number: 10,
+    place: 0,
+};
+
 // A record without its mark.
 pub fn no_mark(offset: usize) -> Refusal
     ensures { result ≡ no_mark offset }
 {
-    refusal_at(10, offset)
+    NO_MARK.at(offset)
 }
 
 // The times and the symbols of a run of records differ in number.
@@ -78,15 +96,5 @@ pub const DIFFERENT_LENGTHS: Refusal = Refusal {
 pub fn cut_short(offset: usize) -> Refusal
     ensures { result ≡ cut_short offset }
 {
-    refusal_at(DIFFERENT_LENGTHS.number, offset)
-}
-
-// A refusal of the recording reader, whose place is the record's offset.
-fn refusal_at(number: u8, offset: usize) -> Refusal
-    ensures { result ≡ refusal_at number offset }
-{
-    Refusal {
-        number,
-        place: offset as u64,
-    }
+    DIFFERENT_LENGTHS.at(offset)
 }

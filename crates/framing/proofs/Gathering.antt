@@ -1,26 +1,34 @@
 -- The bytes of a datagram ahead, as they are gathered record by record.
 use mathlib.Core.Path.{◌≡◌, refl, ◌∙◌}
+use mathlib.Core.Bool.{Bool, true, false}
 use mathlib.Core.List.{List}
 use Prim.Native.Nat.{ℕ, ◌+◌, ◌*◌, ◌-◌, ◌≤◌, ◌<◌}
 use native.Mathlib.Decide.{ℕ_discrete}
 use native.Mathlib.Omega.{arith}
-use borrow.Author.Tests.{le-leb, eq-eqb, ne_eqb}
+use borrow.Author.Tests.{le-leb, ne_eqb}
+use mir.Val.{bool_byte}
 use lib.ListN.{length, get_or, set, length-set}
 use lib.Seq.{get_or-set_same, get_or-set_other}
-use Rattle.number.specs.Word.{word}
+use Rattle.number.specs.Word.{num}
 use Rattle.recording.specs.Record.{record_of, byte_of, time_at, symbol_at, heard}
 
--- a record with the mark, and a symbol of this byte with the command bit, 1, or without it, 0
-pub carried : (s : List ℕ) (at command : ℕ) → at + 8 ≤ length s → command ≤ 1
-    → word (get_or s at 0) (byte_of s at 1) ≡ 0x5453 → get_or s at 0 < 256 → byte_of s at 6 < 256 → byte_of s at 7 ≡ command
-    → record_of s at ≡ heard (time_at s at) (256 * command + byte_of s at 6)
+-- a flag as a byte is its number
+flag_byte : (on : Bool) → (bool_byte on ≡ num on) × (num on ≤ 1)
+flag_byte true = (refl, omega arith)
+flag_byte false = (refl, omega arith)
+
+-- a record with the mark, and a symbol of this byte with the command bit or without it
+pub carried : (s : List ℕ) (at : ℕ) (command : Bool) → at + 8 ≤ length s
+    → get_or s at 0 ≡ 0x53 → byte_of s at 1 ≡ 0x54 → byte_of s at 6 < 256 → byte_of s at 7 ≡ bool_byte command
+    → record_of s at ≡ heard (time_at s at) (256 * num command + byte_of s at 6)
 unfolding record_of
-carried s at command h one mark first low high =
-    let symbol : symbol_at s at ≡ 256 * command + byte_of s at 6 = omega arith in
-    rw (le-leb at (length s) (omega arith), ne_eqb (length s) at (λ e. omega arith), le-leb 8 (length s - at) (omega arith), eq-eqb (get_or s at 0) 0x53 (omega arith), eq-eqb (byte_of s at 1) 0x54 (omega arith), symbol, le-leb (256 * command + byte_of s at 6) 511 (omega arith))
+carried s at command h first second low high =
+    let n = flag_byte command in
+    let symbol : symbol_at s at ≡ 256 * num command + byte_of s at 6 = omega (arith, high, n.0) in
+    rw (le-leb at (length s) (omega arith), ne_eqb (length s) at (λ e. omega arith), le-leb 8 (length s - at) (omega arith), first, second, symbol, le-leb (256 * num command + byte_of s at 6) 511 (omega (arith, n.1)))
 
 -- a byte without the command bit
-pub plain : {b : ℕ} → 256 * 0 + b ≡ b
+plain : {b : ℕ} → 256 * 0 + b ≡ b
 plain {b} = omega arith
 
 -- the first i records carry these bytes, the first with the command bit

@@ -6,11 +6,10 @@ use mathlib.Core.List.{List, []}
 use Prim.Native.Nat.{ℕ, ◌+◌, ◌-◌, ◌*◌, ◌≤◌, ◌<◌}
 use native.Mathlib.Nat.{sub-zero}
 use native.Mathlib.Omega.{arith}
-use borrow.Author.Tests.{ne_eqb, lt-ltb, ltb-true}
-use lib.Dec.{ltb}
+use borrow.Author.Tests.{ne_eqb}
 use lib.ListN.{length, get_or, take}
 use lib.Seq.{get_or-take, length-take-le}
-use Rattle.datagram.specs.Whole.{declared, whole}
+use Rattle.datagram.specs.Whole.{declared}
 use Rattle.datagram.proofs.Whole.{declares}
 use Rattle.listener.specs.State.{empty_listener}
 use Rattle.listener.specs.Step.{hear_of}
@@ -22,52 +21,50 @@ use Rattle.progress.specs.declared.Progress.{Progress}
 use Rattle.framing.specs.declared.Gathered.{Gathered}
 use Rattle.framing.specs.declared.HeardRecord.{HeardRecord}
 use Rattle.listener.specs.Answers.{is_handed}
-use Rattle.progress.specs.Progress.{advanced, tallied}
-use Rattle.framing.specs.Walk.{Line, behind, walk_from, records_from}
-use Rattle.framing.specs.Steps.{GatherStep, RecordGoes, entry}
+use Rattle.progress.specs.Progress.{advanced}
+use Rattle.framing.specs.Walk.{Line, walk_from, records_from}
+use Rattle.framing.specs.declared.Gathered.TheVariants.{Datagram, Cancelled, Stray}
+use Rattle.framing.specs.Steps.{GatherStep, RecordGoes, entry, used_of, count_of, tally_of}
 use Rattle.framing.proofs.Ahead.{walk_stray, walk_cancelled, walk_ahead}
 use Rattle.framing.proofs.Gathering.{Gathering}
 use Rattle.listener.proofs.Handed.{hands, declared_whole}
 use Rattle.framing.proofs.Walks.{walk_heard}
 
--- records that put no text
-module _ {s bytes : List ℕ} {at used : ℕ} {cancelled stray : Bool} where
-  silently : 0 < used → used ≤ records_from s at
+module _ {s bytes : List ℕ} {at : ℕ} where
+  -- records that put no text
+  silently : (g : Gathered) → count_of g ≡ 0 → 0 < used_of g → used_of g ≤ records_from s at
       → ((line : Line) (p : Progress) (room : ℕ) → p.listener ≡ empty_listener → 512 ≤ room
-      → walk_from line (records_from s at) s at p room ≡ walk_from line (records_from s at - used) s (at + 8 * used) (tallied p false cancelled stray) room)
-      → (g : Gathered) → g ≡ record { used = used; count = 0; time = 0; cancelled = cancelled; stray = stray } → GatherStep s at bytes g
-  silently some fits goes g e =
-      rw e
-      (record {
+      → walk_from line (records_from s at) s at p room ≡ walk_from line (records_from s at - used_of g) s (at + 8 * used_of g) (tally_of p g) room)
+      → GatherStep s at bytes g
+  silently g none some fits goes =
+      record {
         some = some;
         fits = fits;
-        most = omega arith;
-        handed = λ h. absurd (omega arith);
-        goes = λ line p room empty roomy. goes line p room empty roomy ∙ rw sub-zero;
-      })
+        most = omega (arith, none);
+        handed = λ h. absurd (omega (arith, none));
+        goes = λ line p room empty roomy. goes line p room empty roomy ∙ rw (none, sub-zero);
+      }
 
-module _ {s bytes : List ℕ} {at : ℕ} where
-  pub gathered_stray : (b : ℕ) → 0 < records_from s at → b < 256 → record_of s at ≡ heard (time_at s at) b
-      → (g : Gathered) → g ≡ record { used = 1; count = 0; time = 0; cancelled = false; stray = true } → GatherStep s at bytes g
+  pub gathered_stray : (b : ℕ) → 0 < records_from s at → b < 256 → record_of s at ≡ heard (time_at s at) b → GatherStep s at bytes Stray
   gathered_stray b some low heard =
-      silently (omega arith) (omega arith)
+      silently Stray refl (omega arith) (omega arith)
       (λ line p room empty roomy. walk_stray line s at (records_from s at) room some roomy (time_at s at) p b low heard empty)
 
 module _ {s bytes : List ℕ} {at m n : ℕ} (a : Gathering s at bytes m) (size : n ≡ declared (byte_of s at 14)) (fits : n ≤ records_from s at) where
   pub gathered_cancelled : (b : ℕ) → 0 < m → m < n → b < 256 → record_of s (at + 8 * m) ≡ heard (time_at s (at + 8 * m)) (256 + b)
-      → (g : Gathered) → g ≡ record { used = m; count = 0; time = 0; cancelled = true; stray = false } → GatherStep s at bytes g
+      → GatherStep s at bytes (Cancelled m)
   gathered_cancelled b some below low heard =
-      silently some (omega arith)
+      silently (Cancelled m) refl some (omega arith)
       (λ line p room empty roomy. walk_cancelled s at m n bytes a size (omega arith) line p (records_from s at) room (omega arith) roomy empty some below (omega arith) (time_at s (at + 8 * m)) b low heard)
 
   pub gathered_whole : m ≡ n → (time : ℕ) → time ≡ time_at s (at + 8 * (n - 1))
-      → (g : Gathered) → g ≡ record { used = n; count = n; time = time; cancelled = false; stray = false } → GatherStep s at bytes g
-  gathered_whole all time last g e =
+      → GatherStep s at bytes (Datagram n time)
+  gathered_whole all time last =
       let long : length (take n bytes) ≡ n = length-take-le n bytes (omega (arith, size, a.long)) in
       let second : get_or bytes 1 0 ≡ byte_of s at 14 = (a.follows 1 (omega arith) (omega (arith, size))).0 ∙ ap (λ (k : ℕ). get_or s k 0) (omega arith) in
       let declares : length (take n bytes) ≡ declared (get_or (take n bytes) 1 0) =
       long ∙ size ∙ ap declared (sym (get_or-take n bytes 1 0 (omega (arith, size)) ∙ second)) in
-      rw (e, last)
+      rw last
       (record {
         some = omega (arith, size);
         fits = fits;
@@ -75,7 +72,7 @@ module _ {s bytes : List ℕ} {at m n : ℕ} (a : Gathering s at bytes m) (size 
         handed = λ h. declared_whole (take n bytes) declares;
         goes = λ line p room empty roomy.
             walk_ahead s at m n bytes a size (omega arith) line p (records_from s at) room (omega arith) roomy empty all
-            ∙ rw (lt-ltb 0 n (omega (arith, size)), ne_eqb (length (take n bytes)) 0 (λ z. omega (arith, size, long)));
+            ∙ rw (ne_eqb (length (take n bytes)) 0 (λ z. omega (arith, size, long)));
       })
 
 -- what was handed out has bytes, and what was not has none
@@ -113,45 +110,3 @@ module _ {s : List ℕ} {at : ℕ} {p : Progress} where
             rw (count, bytes, progress, at-time)
             (walk_heard line s at p left room some r.time r.symbol roomy heard ∙ rw (entry_taken r.time r.symbol l line _ refl));
       }
-
--- one step: these records are used, in the way of the walk
-pub record Stepped (line : Line) (s : List ℕ) (at left : ℕ) (q : Progress) (room : ℕ) (bytes : List ℕ) (p : Progress) (empty : Bool) (used count time : ℕ) : Type 0 where
-  pub some : 0 < used
-  pub fits : used ≤ left
-  pub long : length bytes ≡ 18
-  pub most : count ≤ 18
-  pub handed : 0 < count → whole (take count bytes) ≡ true
-  pub rests : empty ≡ true → p.listener ≡ empty_listener
-  pub goes : walk_from line left s at q room
-      ≡ behind (entry line time (take count bytes)) (walk_from line (left - used) s (at + 8 * used) p (room - length (entry line time (take count bytes))))
-
-module _ {line : Line} {s : List ℕ} {at left room : ℕ} {q : Progress} (roomy : 512 ≤ room) {bytes : List ℕ} {p : Progress} {empty : Bool} {used count time : ℕ} where
-  pub stepped_gather : {stored : List ℕ} (g : Gathered) → GatherStep s at stored g → left ≡ records_from s at → length stored ≡ 18 → q.listener ≡ empty_listener
-      → bytes ≡ stored → p ≡ tallied q (ltb 0 g.count) g.cancelled g.stray → used ≡ g.used → count ≡ g.count
-      → time ≡ g.time → Stepped line s at left q room bytes p empty used count time
-  stepped_gather g step all long was-empty eb ep eu ec et =
-      rw (all, eb, ep, eu, ec, et)
-      (record {
-        some = step.some;
-        fits = step.fits;
-        long = long;
-        most = step.most;
-        handed = step.handed;
-        rests = λ e. was-empty;
-        goes = step.goes line q room was-empty roomy;
-      })
-
-  pub stepped_record : (t : HeardRecord) → RecordGoes s at q t → 0 < left
-      → bytes ≡ t.bytes → p ≡ t.progress → empty ≡ ltb 0 t.count → used ≡ 1 → count ≡ t.count → time ≡ t.time
-      → Stepped line s at left q room bytes p empty used count time
-  stepped_record t step more eb ep ei eu ec et =
-      rw (eb, ep, ei, eu, ec, et)
-      (record {
-        some = omega arith;
-        fits = more;
-        long = step.long;
-        most = step.most;
-        handed = λ h. (step.handed h).0;
-        rests = λ e. (step.handed (ltb-true _ _ e)).1;
-        goes = step.goes line left room more roomy;
-      })

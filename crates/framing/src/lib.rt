@@ -2,26 +2,28 @@
 #![tactic(auto)]
 
 ghost use Rattle.std.specs.Prelude.{◌≡◌, true, false, ◌+◌, ◌*◌, ◌≤◌, length, IfSome};
+ghost use Rattle.number.specs.Word.{num};
 ghost use Rattle.recording.specs.Record.{record_of, heard, time_at, byte_of};
 ghost use Rattle.framing.specs.Steps.{RecordStep, GatherStep};
 
 use datagram::Refusal;
-use number::{long_of, word_of};
+use number::long_of;
 use progress::{Progress, advance};
-use recording::record_at;
+use recording::{MARK, record_at};
 
-// What the records ahead give to a listener that holds nothing: how many they are, how many bytes they hand out, the time of
-// the last of them, and what else is counted.
+// What the records ahead give to a listener that holds nothing.
 #[derive(Clone, Copy)]
-pub struct Gathered {
-    pub used: usize,
-    pub count: usize,
-    pub time: u32,
-    pub cancelled: bool,
-    pub stray: bool,
+pub enum Gathered {
+    // A datagram is handed out: of so many bytes, one from each record, and with the time of the last.
+    Datagram { count: usize, time: u32 },
+    // A command symbol behind so many records cancels the datagram that they begin.
+    Cancelled { used: usize },
+    // One record, whose symbol belongs to no datagram.
+    Stray,
 }
 
-// What one record gave: the progress after it, its time, and the bytes that it handed out.
+// What one record gave: the progress after it, its time, and the bytes that it handed out. An array and its count, 0 for
+// none, as `listener::Heard` has them: there is no heap, and `RecordGoes` names both.
 #[derive(Clone, Copy)]
 pub struct HeardRecord {
     pub progress: Progress,
@@ -31,6 +33,7 @@ pub struct HeardRecord {
 }
 
 // Hears the record at an offset, if one stands there.
+#[tactic(auto, using(crate::proofs::Walks::walk_end, crate::proofs::Walks::walk_refused))]
 pub fn hear_record(p: Progress, input: &[u8], at: usize) -> Result<Option<HeardRecord>, Refusal>
     ensures { RecordStep input.now at p result }
 {
@@ -43,12 +46,13 @@ pub fn hear_record(p: Progress, input: &[u8], at: usize) -> Result<Option<HeardR
     Ok(Some(HeardRecord {
         progress: advance(p, h),
         time: r.time,
-        count: h.count as usize,
+        count: usize::from(h.count),
         bytes,
     }))
 }
 
-// The time of a record.
+// The time of a record whose mark is tested already: `record_at` would test it again. It takes the whole input and an offset,
+// and so does `carries`: the definitions go by them and not by the record's eight bytes.
 fn time_at(input: &[u8], at: usize) -> u32
     requires { at + 8 ≤ length input.now }
     ensures { result ≡ time_at input.now at }
@@ -57,19 +61,18 @@ fn time_at(input: &[u8], at: usize) -> u32
 }
 
 // Whether the record at an offset has the mark and carries a byte, with the command bit or without.
-fn carries(input: &[u8], at: usize, command: u8) -> bool
-    requires { (at + 8 ≤ length input.now) × (command ≤ 1) }
-    ensures { result ≡ true → record_of input.now at ≡ heard (time_at input.now at) (256 * command + byte_of input.now at 6) }
+fn carries(input: &[u8], at: usize, command: bool) -> bool
+    requires { at + 8 ≤ length input.now }
+    ensures { result ≡ true → record_of input.now at ≡ heard (time_at input.now at) (256 * num command + byte_of input.now at 6) }
 {
-    if word_of(input[at], input[at + 1]) != 0x5453 {
-        return false;
-    }
-    input[at + 7] == command
+    [input[at], input[at + 1]] == MARK && input[at + 7] == u8::from(command)
 }
 
 // What the records from an offset on give: the bytes of a datagram that lies whole in them, which are stored, a datagram
 // that a command symbol cancels, or a stray symbol; none where they have to be heard one by one, or the listener is not empty.
-// The bytes lent may be of any length, and the listener in any state: what is asked of a caller stays as little as it was.
+// `empty`, whether the listener holds nothing, is a flag and no `requires`, and the bytes lent are a slice of any length: it
+// is a public call, which asks nothing of its caller.
+#[tactic(auto, using(crate::proofs::Gathering::gathered_one, crate::proofs::Steps::gathered_stray, crate::proofs::Steps::gathered_cancelled))]
 pub fn gather(empty: bool, input: &[u8], at: usize, bytes: &mut [u8]) -> Option<Gathered>
     ensures { IfSome result (λ g. (empty ≡ true) × GatherStep input.now at bytes.new g) }
 {
@@ -80,40 +83,21 @@ pub fn gather(empty: bool, input: &[u8], at: usize, bytes: &mut [u8]) -> Option<
     if left < 3 {
         return None;
     }
-    let n = 3 + input[at + 14] as usize % 16;
+    let n = 3 + usize::from(input[at + 14]) % 16;
     if left < n {
         return None;
     }
-    if !carries(input, at, 1) {
-        if carries(input, at, 0) {
-            return Some(taken(1, 0, 0, false, true));
-        }
-        return None;
+    if !carries(input, at, true) {
+        return carries(input, at, false).then_some(Gathered::Stray);
     }
     bytes[0] = input[at + 6];
     for i in 1..n {
         let q = at + 8 * i;
-        if !carries(input, q, 0) {
-            if carries(input, q, 1) {
-                return Some(taken(i, 0, 0, true, false));
-            }
-            return None;
+        if !carries(input, q, false) {
+            return carries(input, q, true).then_some(Gathered::Cancelled { used: i });
         }
         bytes[i] = input[q + 6];
     }
     let time = time_at(input, at + 8 * (n - 1));
-    Some(taken(n, n, time, false, false))
-}
-
-// A function, since the literal takes seven lines at each of its calls. The flags are those that `tally` takes.
-fn taken(used: usize, count: usize, time: u32, cancelled: bool, stray: bool) -> Gathered
-    ensures { result ≡ (record { used = used; count = count; time = time; cancelled = cancelled; stray = stray }) }
-{
-    Gathered {
-        used,
-        count,
-        time,
-        cancelled,
-        stray,
-    }
+    Some(Gathered::Datagram { count: n, time })
 }

@@ -1,5 +1,5 @@
 // What stands in the fields of each kind: their number, the flags among them, and the message that they make.
-ghost use Rattle.std.specs.Prelude.{◌≡◌};
+ghost use Rattle.std.specs.Prelude.{◌≡◌, ◌≤◌, IfSome, All};
 ghost use Rattle.from_fields.specs.Numbers.{numbers_of};
 ghost use Rattle.from_fields.specs.Naming.{count_of, flags_of, bad_flag, message_of};
 
@@ -36,16 +36,14 @@ pub fn count_of(kind: Kind) -> u8
     }
 }
 
-// The first of these fields, counted from 1, that is neither 0 nor 1.
+// The first of these fields, counted from 1, that is neither 0 nor 1. Saturating, as the definition's difference is; no list has a 0.
 fn first_bad(flags: &[u8], fields: &[u8]) -> Option<u8>
     ensures { result ≡ bad_flag flags.now (numbers_of fields.now) }
 {
-    for &k in flags {
-        if 1 < natural_at(fields, k.saturating_sub(1)) {
-            return Some(k);
-        }
-    }
-    None
+    flags
+        .iter()
+        .copied()
+        .find(|&k| 1 < natural_at(fields, k.saturating_sub(1)))
 }
 
 // The kind's first bad flag, counted from 1.

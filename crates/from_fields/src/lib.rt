@@ -18,10 +18,7 @@ use message::{Kind, Message, Row};
 pub fn message_of(command: u32, fields: &[u8]) -> Result<Message, Refusal>
     ensures { result ≡ named_of command fields.now }
 {
-    match u8::try_from(command) {
-        Ok(command) => message_as(message::find(command), fields),
-        Err(_) => Err(UNKNOWN_COMMAND),
-    }
+    message_as(u8::try_from(command).ok().and_then(message::find), fields)
 }
 
 // The same by the row that the command was found at.

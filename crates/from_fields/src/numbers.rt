@@ -3,7 +3,7 @@ ghost use Rattle.std.specs.Prelude.{◌≡◌};
 ghost use Rattle.from_fields.specs.Numbers.{numbers_of};
 ghost use Rattle.from_fields.specs.Naming.{signed, natural, on};
 
-// Field i, counted from 0, with its sign; 0 past the end.
+// Field i, counted from 0, with its sign; 0 past the end, as its definition has it.
 pub fn signed_at(fields: &[u8], i: u8) -> i32
     ensures { result ≡ signed (numbers_of fields.now) i }
 {

@@ -2,9 +2,10 @@
 use Rattle.std.specs.Prelude.{Result, Ok, Err, ⊤}
 use mathlib.Core.Path.{◌≡◌, ap, ◌∙◌}
 use mathlib.Core.List.{List, [], ◌∷◌}
-use Prim.Native.Nat.{ℕ, ◌+◌, ◌-◌, ◌*◌, ◌%◌}
+use Prim.Native.Nat.{ℕ, ◌+◌, ◌-◌, ◌*◌, ◌%◌, ◌<◌}
 use native.Mathlib.Omega.{arith}
-use lib.ListN.{get_or}
+use Rattle.std.proofs.lemmas.Grind.{common_steps}
+use lib.ListN.{length, get_or}
 use Rattle.datagram.specs.declared.Refusal.{Refusal}
 use Rattle.message.specs.declared.Message.TheVariants.{Key}
 use Rattle.message.specs.Spelling.{bytes_of}
@@ -19,6 +20,15 @@ room = 0 ∷ 0 ∷ 0 ∷ 0 ∷ []
 -- the bytes of four symbols
 abbrev pub lows : List ℕ → List ℕ
 lows symbols = (get_or symbols 0 0 % 256) ∷ (get_or symbols 1 0 % 256) ∷ (get_or symbols 2 0 % 256) ∷ (get_or symbols 3 0 % 256) ∷ []
+
+-- four bytes, each the low byte of its symbol
+pub mapped : (bytes symbols : List ℕ) → length bytes ≡ 4 → ((i : ℕ) → i < 4 → get_or bytes i 0 ≡ get_or symbols i 0 % 256) → bytes ≡ lows symbols
+mapped bytes symbols long each =
+    let zeroth = each 0 (omega arith) in
+    let first = each 1 (omega arith) in
+    let second = each 2 (omega arith) in
+    let third = each 3 (omega arith) in
+    grind (arith, common_steps)
 
 module _ (source code : ℕ) where
   pub key_refused : (v : Result ⊤ Refusal) (r : Refusal) (symbols : List ℕ)

@@ -1,7 +1,7 @@
 // The key sender: a keystroke, datagram 86, offered to the bus.
 #![tactic(auto)]
 
-ghost use Rattle.std.specs.Prelude.{◌≡◌};
+ghost use Rattle.std.specs.Prelude.{◌≡◌, ◌%◌};
 ghost use Rattle.key_sender.specs.Key.{key_of};
 
 use message::Message;
@@ -13,19 +13,19 @@ pub fn send_key(source: u8, code: u8) -> Offered
 {
     let mut symbols = [0u16; 4];
     let m = Message::Key {
-        source: source as u32,
-        code: code as u32,
+        source: u32::from(source),
+        code: u32::from(code),
     };
     match writer::write(m, &mut symbols, 0) {
         Err(r) => sender::refused_offer(r),
-        Ok(_) => {
-            let bytes = [
-                (symbols[0] % 256) as u8,
-                (symbols[1] % 256) as u8,
-                (symbols[2] % 256) as u8,
-                (symbols[3] % 256) as u8,
-            ];
-            sender::offer(&bytes, 0, 3)
-        }
+        Ok(_) => sender::offer(&symbols.map(byte_of), 0, 3),
     }
+}
+
+// The byte of a symbol, which is the symbol without the command bit.
+fn byte_of(symbol: u16) -> u8
+    ensures { result ≡ symbol % 256 }
+{
+    let [byte, _] = symbol.to_le_bytes();
+    byte
 }

@@ -8,15 +8,16 @@ ghost use Rattle.listener.specs.Step.{hear_of, command_symbol, other_symbol, qui
 use datagram::Refusal;
 use datagram::refusals::{NOT_SOUND, SYMBOL_ABOVE};
 
-// What is held of the datagram that is being heard: `held` bytes, and zeros past them. An array with its count, as in `Heard`, since
-// no heap is used and definitions and theorems name the layout.
+// What is held of the datagram that is being heard: `held` bytes, and zeros past them. An array with its count, as in `Heard`: there is
+// no heap, and theorems name both. The calls on it, and what they are made of, are free functions: `empty_listener`, `is_sound`, `is_empty`
+// and `hear` are public calls, which methods would say twice.
 #[derive(Clone, Copy)]
 pub struct Listener {
     pub bytes: [u8; 17],
     pub held: u8,
 }
 
-// The answer to one symbol.
+// The answer to one symbol. A refusal is one of them, as in the definitions, which tell each case.
 #[derive(Clone, Copy)]
 pub enum Answer {
     Opened,
@@ -51,7 +52,7 @@ pub fn empty_listener() -> Listener
 pub fn is_sound(l: Listener) -> bool
     ensures { result ≡ sound l }
 {
-    l.held < 3 + l.bytes[1] % 16 && datagram::zeros_from(&l.bytes, l.held as usize)
+    l.held < 3 + l.bytes[1] % 16 && datagram::zeros_from(&l.bytes, usize::from(l.held))
 }
 
 // Whether the state is empty: sound, with nothing held.
@@ -72,13 +73,14 @@ pub fn hear(l: Listener, symbol: u16) -> Heard
     if !is_sound(l) {
         return refused(l, NOT_SOUND);
     }
+    let [byte, _] = symbol.to_le_bytes();
     if 256 <= symbol {
-        return opened(l, (symbol - 256) as u8);
+        return opened(l, byte);
     }
     if l.held == 0 {
         return without_bytes(Answer::Stray, l);
     }
-    extended(l, symbol as u8)
+    extended(l, byte)
 }
 
 fn without_bytes(answer: Answer, listener: Listener) -> Heard
@@ -122,7 +124,7 @@ fn extended(l: Listener, byte: u8) -> Heard
         return handed_out(l, byte);
     }
     let mut next = l;
-    next.bytes[l.held as usize] = byte;
+    next.bytes[usize::from(l.held)] = byte;
     next.held += 1;
     without_bytes(Answer::Kept, next)
 }
@@ -132,7 +134,7 @@ fn handed_out(l: Listener, byte: u8) -> Heard
     requires { l.held ≤ 17 }
     ensures { result ≡ handed (held_bytes l ++ (byte ∷ [])) }
 {
-    let held = l.held as usize;
+    let held = usize::from(l.held);
     let mut bytes = [0; 18];
     bytes[..held].copy_from_slice(&l.bytes[..held]);
     bytes[held] = byte;

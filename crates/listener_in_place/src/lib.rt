@@ -15,7 +15,8 @@ pub fn hear_in_place(l: &mut Listener, symbol: u16) -> Heard
     heard
 }
 
-// The same with plain parameters: the state is put in a place, and the outcome has the state that is left there.
+// The same with plain parameters: the state is put in a place, and the outcome has the state that is left there. No crate calls it; it
+// stands beside the other as a public call with a statement and edits of its own.
 pub fn hear_by_value(l: Listener, symbol: u16) -> Heard
     ensures { result ≡ hear_of l symbol }
 {

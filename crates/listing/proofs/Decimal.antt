@@ -5,9 +5,9 @@ use mathlib.Core.Bool.{Bool, true, false, cond}
 use Prim.Native.Nat.{ℕ, zero, suc, ◌+◌, ◌*◌, ◌-◌, ◌/◌, ◌%◌, ◌^◌, ◌≤◌, ◌<◌}
 use native.Mathlib.Nat.{pow-succ'}
 use native.Mathlib.Omega.{arith}
-use borrow.Author.Tests.{lt-ltb, le-ltb}
+use borrow.Author.Tests.{lt-ltb, le-ltb, ltb-true, ltb-false}
 use lib.Dec.{ltb}
-use lib.ListN.{length, set}
+use lib.ListN.{length, set, length-append}
 use lib.Seq.{sets, length-sets}
 use Rattle.listing.specs.Text.{decimal_by, decimal, pair_of}
 use Rattle.listing.proofs.Put.{set_sets}
@@ -145,6 +145,14 @@ decimal_hundreds : (n : ℕ) → 100 ≤ n → n < to 17 → decimal n ≡ decim
 unfolding decimal
 decimal_hundreds n g h =
     two_by 18 n [] g ∙ by_enough 17 18 20 (n / 100) [] (pair_of (n % 100)) (omega arith) (omega arith) (omega arith)
+
+-- a number of at least ten has two digits or more
+pub decimal_least : (n : ℕ) → 10 ≤ n → n < to 17 → 2 ≤ length (decimal n)
+decimal_least n g h = go (ltb n 100) refl
+  where
+    go : (t : Bool) → ltb n 100 ≡ t → 2 ≤ length (decimal n)
+    go true e = rw (decimal_two n g (ltb-true n 100 e)) (omega arith)
+    go false e = rw (decimal_hundreds n (ltb-false n 100 e) h) (omega (arith, length-append (decimal (n / 100)) (pair_of (n % 100))))
 
 -- the ten thousands, and then the last four digits, two and two
 pub decimal_ten_thousands : (n : ℕ) → 10000 ≤ n → n < to 17

@@ -1,17 +1,14 @@
 -- A time by the digits that are kept: they are stored first, and its last four digits over what is stored past them.
 use mathlib.Core.Path.{◌≡◌, refl, sym, ap, ◌∙◌}
-use mathlib.Core.Bool.{Bool, true, false}
 use mathlib.Core.List.{List, [], ◌∷◌, ◌++◌}
 use Prim.Native.Nat.{ℕ, ◌+◌, ◌/◌, ◌%◌, ◌≤◌, ◌<◌}
 use native.Mathlib.Nat.{zero-add}
 use native.Mathlib.Omega.{arith}
-use borrow.Author.Tests.{ltb-true, ltb-false}
-use lib.Dec.{ltb}
 use lib.ListN.{length, get_or, take, drop, length-append}
 use lib.Seq.{sets, sets-eq, take-append_seam, length-take-le}
 use Rattle.std.proofs.lemmas.List.{take-take}
 use Rattle.listing.specs.Text.{Put, Kept, decimal, pair_of}
-use Rattle.listing.proofs.Decimal.{decimal_most, decimal_below, decimal_ten_thousands}
+use Rattle.listing.proofs.Decimal.{decimal_most, decimal_below, decimal_least, decimal_ten_thousands}
 use Rattle.listing.proofs.Put.{put_length, overlaid}
 
 -- the first six of a list
@@ -37,15 +34,7 @@ kept_anew {bytes} {after} {n} {count} long put =
       many = many;
     }
 
--- a number of two digits or more is at least ten
-ten_least : (m : ℕ) → 2 ≤ length (decimal m) → 10 ≤ m
-ten_least m h = go (ltb m 10) refl
-  where
-    go : (t : Bool) → ltb m 10 ≡ t → 10 ≤ m
-    go true e = absurd (omega (arith, decimal_below 0 m (ltb-true m 10 e)))
-    go false e = ltb-false m 10 e
-
-module _ {digits : List ℕ} {n count : ℕ} (k : Kept digits (n / 10000) count) (two : 2 ≤ count) (below : n < 10000000000) where
+module _ {digits : List ℕ} {n count : ℕ} (k : Kept digits (n / 10000) count) (least : 100000 ≤ n) (below : n < 10000000000) where
   pub at_most_six : count ≤ 6
   at_most_six = omega (arith, k.many, decimal_below 5 (n / 10000) (omega arith))
 
@@ -56,9 +45,9 @@ module _ {digits : List ℕ} {n count : ℕ} (k : Kept digits (n / 10000) count)
       let long : length (take 6 digits) ≡ 6 = length-take-le 6 digits (omega (arith, k.long)) in
       let kept : take count (take 6 digits) ≡ decimal (n / 10000) = take-take count 6 digits at_most_six ∙ k.shown in
       let all : decimal n ≡ take count (take 6 digits) ++ four =
-      decimal_ten_thousands n (omega (arith, ten_least (n / 10000) (omega (arith, k.many)))) (omega arith) ∙ ap (λ (d : List ℕ). d ++ four) (sym kept) in
+      decimal_ten_thousands n (omega arith) (omega arith) ∙ ap (λ (d : List ℕ). d ++ four) (sym kept) in
       record {
         stored = put.stored ∙ ap (λ (l : List ℕ). sets l (at + count) four) e
-            ∙ overlaid out at count (take 6 digits) four (omega (arith, long, at_most_six)) (omega (arith, long)) ∙ ap (sets out at) (sym all);
+            ∙ overlaid out at count (take 6 digits) four (omega (arith, long, at_most_six)) (omega (arith, long, k.many, decimal_least (n / 10000) (omega arith) (omega arith))) ∙ ap (sets out at) (sym all);
         moved = omega (arith, put.moved, ap length all, length-append (take count (take 6 digits)) four, ap length kept, k.many);
       }

@@ -35,15 +35,6 @@ hex_byte b = hex_digit (b / 16) ∷ hex_digit (b % 16) ∷ []
 abbrev pub pair_of : ℕ → List ℕ
 pair_of n = (48 + n / 10) ∷ (48 + n % 10) ∷ []
 
--- the digits of so many numbers, from one on
-abbrev pub digits_from : (ℕ → List ℕ) → ℕ → ℕ → List ℕ
-digits_from digits first zero = []
-digits_from digits first (suc n) = digits first ++ digits_from digits (suc first) n
-
--- the two hex digits of each byte, and then the two decimal digits of each number below 100
-unfoldable pub digit_pairs : List ℕ
-digit_pairs = digits_from hex_byte 0 256 ++ digits_from pair_of 0 100
-
 -- each byte in hex after a space
 abbrev pub spaced_hex : List ℕ → List ℕ
 spaced_hex [] = []

@@ -5,7 +5,8 @@ ghost use Rattle.listing.specs.Text.{Put, spaced_numbers};
 
 use crate::{put_bytes, put_decimal};
 
-// One field, or several one after the other. The compiler knows the type behind put_kind's match, and makes straight code.
+// One field, or several one after the other. The compiler knows their types behind put_kind's match, and puts them without a
+// loop and without a test of what they are.
 pub trait Fields {
     // The numbers that are put; each takes at most 22 bytes.
     ghost numbers: { Self → List ℤ };
@@ -19,7 +20,7 @@ impl Fields for u32 {
     ghost numbers = { λ n. pos n ∷ [] };
 
     fn put(self, out: &mut [u8], at: usize) -> usize {
-        out[at] = 32;
+        out[at] = b' ';
         put_decimal(out, at + 1, u64::from(self))
     }
 }
@@ -28,10 +29,10 @@ impl Fields for i32 {
     ghost numbers = { λ z. z ∷ [] };
 
     fn put(self, out: &mut [u8], at: usize) -> usize {
-        out[at] = 32;
+        out[at] = b' ';
         let size = u64::from(self.unsigned_abs());
         if self < 0 {
-            out[at + 1] = 45;
+            out[at + 1] = b'-';
             put_decimal(out, at + 2, size)
         } else {
             put_decimal(out, at + 1, size)
@@ -44,8 +45,8 @@ impl Fields for bool {
     ghost numbers = { λ on. pos (num on) ∷ [] };
 
     fn put(self, out: &mut [u8], at: usize) -> usize {
-        out[at] = 32;
-        out[at + 1] = 48 + u8::from(self);
+        out[at] = b' ';
+        out[at + 1] = b'0' + u8::from(self);
         at + 2
     }
 }

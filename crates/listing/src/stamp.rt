@@ -4,7 +4,8 @@ ghost use Rattle.listing.specs.Text.{Put, Kept, decimal};
 
 use crate::{put_bytes, put_decimal, put_pair};
 
-// The digits that are kept from line to line: of how many ten thousands, and how many they are.
+// The digits that are kept from line to line: `leading` is a time divided by 10000, and `count` is how many digits it has. They
+// stand in an array, since there is no heap, of the 20 bytes that put_decimal asks for.
 #[derive(Drop)]
 pub struct Stamp {
     leading: u32,
@@ -21,19 +22,20 @@ impl Stamp {
         Stamp {
             leading: 0,
             count: 1,
-            digits: [48; 20],
+            digits: [b'0'; 20],
         }
     }
 
-    // Puts a time in decimal. Six of the digits that are kept are stored, and those past their number stored over.
+    // Puts a time in decimal: six bytes of the digits that are kept, and over those past their number the last four digits.
     pub fn put(&mut self, out: &mut [u8], at: usize, time: u32) -> usize
         requires { at + 26 ≤ length out.old }
         ensures { Put out.old at (decimal time) out.new result }
     {
-        self.keep(time / 10000);
-        if self.count < 2 {
+        // It has five digits at most, and six bytes would reach past it.
+        if time < 100000 {
             return put_decimal(out, at, u64::from(time));
         }
+        self.keep(time / 10000);
         // All six are read before one is stored, so that it is one read and one store for four and for two.
         let [a, b, c, d, e, f, ..] = self.digits;
         put_bytes(out, at, &[a, b, c, d, e, f]);

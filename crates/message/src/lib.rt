@@ -7,6 +7,8 @@ ghost use Rattle.std.specs.Prelude.{◌≡◌};
 ghost use Rattle.message.specs.Table.{row_of, find_of};
 ghost use Rattle.message.specs.Fields.{kind_of, command_of};
 
+// `find`, `row_of`, `kind_of` and `command_of` are free functions: public calls, which methods would say twice.
+
 // A kind of message, by its row in the table of rules 4.2.
 #[derive(Clone, Copy)]
 pub enum Kind {
@@ -135,7 +137,7 @@ pub enum Message {
     },
 }
 
-// A row of the table: the command, the whole length and the kind.
+// A row of the table: the command, the whole length and the kind. The patterns of `reader::read_kind` are held to the length.
 #[derive(Clone, Copy)]
 pub struct Row {
     pub command: u8,
@@ -270,7 +272,7 @@ const TURN: Row = Row {
     kind: Kind::Turn,
 };
 
-// The table's row for a command.
+// The table by the command: each command stands here again, beside its row, and the contract holds the two together.
 #[tactic(auto, unfolding(crate::specs::Table::kinds, crate::specs::Table::find_of))]
 pub fn find(command: u8) -> Option<Row>
     ensures { result ≡ find_of command }

@@ -6,8 +6,11 @@ use crate::Message;
 use datagram::Refusal;
 use datagram::refusals::out_of_range;
 
-// Three tests and no generic one: each is held to its own definition, and its name says which bounds are tested.
-fn at_most(field: u8, limit: u32, n: u32) -> Result<(), Refusal>
+// Three tests and no generic one: each is held to its own definition, and its name says which bounds are tested. The reader makes
+// the first two, of what the bytes spell.
+
+// Whether field number `field`, counted from 1, is at most the limit; else the refusal that names it.
+pub fn at_most(field: u8, limit: u32, n: u32) -> Result<(), Refusal>
     ensures { result ≡ at_most field limit n }
 {
     if n <= limit {
@@ -17,7 +20,8 @@ fn at_most(field: u8, limit: u32, n: u32) -> Result<(), Refusal>
     }
 }
 
-fn from_one(field: u8, limit: u32, n: u32) -> Result<(), Refusal>
+// The same for a field that is at least 1.
+pub fn from_one(field: u8, limit: u32, n: u32) -> Result<(), Refusal>
     ensures { result ≡ from_one field limit n }
 {
     if n < 1 {
@@ -26,7 +30,8 @@ fn from_one(field: u8, limit: u32, n: u32) -> Result<(), Refusal>
     at_most(field, limit, n)
 }
 
-fn in_bounds(field: u8, low: i32, high: i32, z: i32) -> Result<(), Refusal>
+// The same for a signed field, from low to high.
+pub fn in_bounds(field: u8, low: i32, high: i32, z: i32) -> Result<(), Refusal>
     ensures { result ≡ within field low high z }
 {
     if low <= z && z <= high {

@@ -8,7 +8,8 @@ ghost use Rattle.progress.specs.Progress.{begun, counted, tallied, advanced, cut
 use datagram::Refusal;
 use listener::{Answer, Heard, Listener};
 
-// What is carried from block to block: the listener, and how many answers of each counted sort it gave.
+// What is carried from block to block: the listener, and how many answers of each counted sort it gave. The calls on it are free
+// functions: `begin`, `advance` and `tally` are public calls, which methods would say twice.
 #[derive(Clone, Copy)]
 pub struct Progress {
     pub listener: Listener,
@@ -39,22 +40,23 @@ pub fn advance(p: Progress, h: Heard) -> Progress
     };
     match h.answer {
         Answer::Cancelled => Progress {
-            cancelled: count(true, p.cancelled),
+            cancelled: p.cancelled.wrapping_add(1),
             ..next
         },
         Answer::Stray => Progress {
-            stray: count(true, p.stray),
+            stray: p.stray.wrapping_add(1),
             ..next
         },
         Answer::HandedOut => Progress {
-            handed: count(true, p.handed),
+            handed: p.handed.wrapping_add(1),
             ..next
         },
         Answer::Opened | Answer::Kept | Answer::Refused(_) => next,
     }
 }
 
-// The same listener, with what was heard counted.
+// The same listener, with what was heard counted. Three flags, and no enum of one sort: a public call, which counts any of the three
+// together.
 pub fn tally(p: Progress, handed: bool, cancelled: bool, stray: bool) -> Progress
     ensures { result ≡ tallied p handed cancelled stray }
 {

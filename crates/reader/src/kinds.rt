@@ -1,8 +1,7 @@
 // Each kind's bytes, named by the letters of rules 4.3, as a message whose fields are in range. Where no test is made the
-// bytes cannot spell a field out of range. Kinds whose bytes are alike are no twins: each makes its own variant, and what they share
-// stands in a function of its own.
+// bytes cannot spell a field out of range. Kinds whose bytes are alike have a function each, for each makes its own variant.
 ghost use Rattle.std.specs.Prelude.{◌≡◌};
-ghost use Rattle.message.specs.Decode.{depth_of, wind_angle_of, wind_speed_of, speed_of, trip_of, total_of, logs_of, speeds_of, water_of, lamp_of, latitude_of, longitude_of, ground_of, course_of, time_of, date_of, pilot_of, key_of, heading_of, variation_of, turn_of, six_of};
+ghost use Rattle.message.specs.Decode.{depth_of, wind_angle_of, wind_speed_of, speed_of, trip_of, total_of, logs_of, speeds_of, water_of, lamp_of, latitude_of, longitude_of, ground_of, course_of, time_of, date_of, pilot_of, key_of, heading_of, variation_of, turn_of};
 ghost use Rattle.message.specs.Range.{at_most, and_then};
 ghost use Rattle.message.specs.Reading.{judged};
 
@@ -10,6 +9,7 @@ use angle::{half_angle, quarter_angle, turns_right, whole_angle};
 use datagram::Refusal;
 use datagram::refusals::{BAD_REPEAT, out_of_range};
 use message::Message;
+use message::range::{at_most, from_one};
 use number::{difference, negated_byte, signed_byte, word_of};
 
 #[tactic(auto, unfolding(message::specs::Range::range_of))]
@@ -22,7 +22,7 @@ pub fn depth(yz: u8, low: u8, high: u8) -> Result<Message, Refusal>
         metric: yz / 64 % 2 == 1,
         defective: yz / 4 % 2 == 1,
         deep: yz / 2 % 2 == 1,
-        shallow: yz / 1 % 2 == 1,
+        shallow: yz % 2 == 1,
     })
 }
 
@@ -31,9 +31,7 @@ pub fn wind_angle(xx: u8, yy: u8) -> Result<Message, Refusal>
     ensures { result ≡ judged (wind_angle_of xx yy) }
 {
     let halves = word_of(yy, xx);
-    if 719 < halves {
-        return Err(out_of_range(1));
-    }
+    at_most(1, 719, halves)?;
     Ok(Message::WindAngle { halves })
 }
 
@@ -41,14 +39,12 @@ pub fn wind_angle(xx: u8, yy: u8) -> Result<Message, Refusal>
 pub fn wind_speed(xx: u8, y: u8) -> Result<Message, Refusal>
     ensures { result ≡ judged (wind_speed_of xx y) }
 {
-    if y % 16 <= 9 {
-        Ok(Message::WindSpeed {
-            tenths: 10 * (u32::from(xx) % 128) + u32::from(y) % 16,
-            metres: xx / 128 % 2 == 1,
-        })
-    } else {
-        Err(out_of_range(1))
-    }
+    let digit = u32::from(y) % 16;
+    at_most(1, 9, digit)?;
+    Ok(Message::WindSpeed {
+        tenths: 10 * (u32::from(xx) % 128) + digit,
+        metres: xx / 128 % 2 == 1,
+    })
 }
 
 #[tactic(auto, unfolding(message::specs::Range::range_of))]
@@ -96,7 +92,7 @@ pub fn speeds(xl: u8, xh: u8, yl: u8, yh: u8, de: u8) -> Result<Message, Refusal
         speed: word_of(xl, xh),
         average: word_of(yl, yh),
         valid: de / 64 % 2 == 1,
-        stopped: de / 1 % 2 == 1,
+        stopped: de % 2 == 1,
         mph: de / 2 % 2 == 1,
     })
 }
@@ -110,6 +106,7 @@ pub fn water(low: u8, high: u8) -> Result<Message, Refusal>
     })
 }
 
+// The two bits below the level are 0: no range of a field, so the test stands here.
 #[tactic(auto, unfolding(message::specs::Range::range_of))]
 pub fn lamp(x: u8) -> Result<Message, Refusal>
     ensures { result ≡ judged (lamp_of x) }
@@ -127,10 +124,11 @@ pub fn lamp(x: u8) -> Result<Message, Refusal>
 pub fn latitude(xx: u8, low: u8, high: u8) -> Result<Message, Refusal>
     ensures { result ≡ judged (latitude_of xx low high) }
 {
+    let degrees = u32::from(xx);
     let hundredths = word_of(low, high % 128);
-    degrees_up_to(90, xx, hundredths)?;
+    coordinate_spelled(90, degrees, hundredths)?;
     Ok(Message::Latitude {
-        degrees: u32::from(xx),
+        degrees,
         hundredths,
         south: high / 128 % 2 == 1,
     })
@@ -140,26 +138,22 @@ pub fn latitude(xx: u8, low: u8, high: u8) -> Result<Message, Refusal>
 pub fn longitude(xx: u8, low: u8, high: u8) -> Result<Message, Refusal>
     ensures { result ≡ judged (longitude_of xx low high) }
 {
+    let degrees = u32::from(xx);
     let hundredths = word_of(low, high % 128);
-    degrees_up_to(180, xx, hundredths)?;
+    coordinate_spelled(180, degrees, hundredths)?;
     Ok(Message::Longitude {
-        degrees: u32::from(xx),
+        degrees,
         hundredths,
         east: high / 128 % 2 == 1,
     })
 }
 
-// Whether degrees are at most the limit, and hundredths of a minute make no degree.
-fn degrees_up_to(limit: u8, degrees: u8, hundredths: u32) -> Result<(), Refusal>
+// Whether degrees, field 1, are at most the limit, and hundredths of a minute, field 2, make no degree.
+fn coordinate_spelled(limit: u32, degrees: u32, hundredths: u32) -> Result<(), Refusal>
     ensures { result ≡ and_then (at_most 1 limit degrees) (at_most 2 5999 hundredths) }
 {
-    if limit < degrees {
-        return Err(out_of_range(1));
-    }
-    if 5999 < hundredths {
-        return Err(out_of_range(2));
-    }
-    Ok(())
+    at_most(1, limit, degrees)?;
+    at_most(2, 5999, hundredths)
 }
 
 #[tactic(auto, unfolding(message::specs::Range::range_of))]
@@ -175,32 +169,24 @@ pub fn ground(low: u8, high: u8) -> Result<Message, Refusal>
 pub fn course(u0: u8, vw: u8) -> Result<Message, Refusal>
     ensures { result ≡ judged (course_of u0 vw) }
 {
-    if vw % 64 <= 44 {
-        Ok(Message::Course {
-            halves: half_angle(u0 / 16, vw % 64),
-        })
-    } else {
-        Err(out_of_range(1))
-    }
+    at_most(1, 44, u32::from(vw % 64))?;
+    Ok(Message::Course {
+        halves: half_angle(u0 / 16, vw % 64),
+    })
 }
 
 #[tactic(auto, unfolding(message::specs::Range::range_of))]
 pub fn time(t1: u8, rs: u8, hh: u8) -> Result<Message, Refusal>
     ensures { result ≡ judged (time_of t1 rs hh) }
 {
+    let hours = u32::from(hh);
     let minutes = u32::from(rs) / 4;
     let seconds = u32::from(rs) % 4 * 16 + u32::from(t1) / 16;
-    if 23 < hh {
-        return Err(out_of_range(1));
-    }
-    if 59 < minutes {
-        return Err(out_of_range(2));
-    }
-    if 59 < seconds {
-        return Err(out_of_range(3));
-    }
+    at_most(1, 23, hours)?;
+    at_most(2, 59, minutes)?;
+    at_most(3, 59, seconds)?;
     Ok(Message::Time {
-        hours: u32::from(hh),
+        hours,
         minutes,
         seconds,
     })
@@ -211,20 +197,12 @@ pub fn date(m1: u8, dd: u8, yy: u8) -> Result<Message, Refusal>
     ensures { result ≡ judged (date_of m1 dd yy) }
 {
     let month = u32::from(m1) / 16;
-    if month < 1 || 12 < month {
-        return Err(out_of_range(1));
-    }
-    if dd < 1 || 31 < dd {
-        return Err(out_of_range(2));
-    }
-    if 99 < yy {
-        return Err(out_of_range(3));
-    }
-    Ok(Message::Date {
-        month,
-        day: u32::from(dd),
-        year: u32::from(yy),
-    })
+    let day = u32::from(dd);
+    let year = u32::from(yy);
+    from_one(1, 12, month)?;
+    from_one(2, 31, day)?;
+    at_most(3, 99, year)?;
+    Ok(Message::Date { month, day, year })
 }
 
 #[tactic(auto, unfolding(message::specs::Range::range_of))]
@@ -240,7 +218,7 @@ pub fn pilot(
 ) -> Result<Message, Refusal>
     ensures { result ≡ judged (pilot_of u6 vw xy z m rr ss tt) }
 {
-    angles_spelled(3, vw, xy)?;
+    angles_spelled(3, vw % 64, xy)?;
     Ok(Message::Pilot {
         degrees: whole_angle(u6 / 16, vw % 64),
         right: turns_right(u6 / 16),
@@ -256,17 +234,12 @@ pub fn pilot(
     })
 }
 
-// Whether the six low bits of VW spell an angle, field 1, and XY half degrees within a quarter, the field of this number.
-fn angles_spelled(field: u8, vw: u8, xy: u8) -> Result<(), Refusal>
-    ensures { result ≡ and_then (at_most 1 44 (six_of vw)) (at_most field 179 xy) }
+// Whether six bits spell an angle, field 1, and XY half degrees within a quarter, the field of this number.
+fn angles_spelled(field: u8, six: u8, xy: u8) -> Result<(), Refusal>
+    ensures { result ≡ and_then (at_most 1 44 six) (at_most field 179 xy) }
 {
-    if 44 < vw % 64 {
-        return Err(out_of_range(1));
-    }
-    if 179 < xy {
-        return Err(out_of_range(field));
-    }
-    Ok(())
+    at_most(1, 44, u32::from(six))?;
+    at_most(field, 179, u32::from(xy))
 }
 
 #[tactic(auto, unfolding(message::specs::Range::range_of))]
@@ -287,7 +260,7 @@ pub fn key(x1: u8, code: u8, repeat: u8) -> Result<Message, Refusal>
 pub fn heading(u2: u8, vw: u8, xy: u8, z: u8) -> Result<Message, Refusal>
     ensures { result ≡ judged (heading_of u2 vw xy z) }
 {
-    angles_spelled(2, vw, xy)?;
+    angles_spelled(2, vw % 64, xy)?;
     Ok(Message::Heading {
         halves: half_angle(u2 / 16, vw % 64),
         reference: quarter_angle(vw / 64, xy),
@@ -308,14 +281,11 @@ pub fn variation(xx: u8) -> Result<Message, Refusal>
 pub fn turn(u1: u8, vw: u8, rr: u8) -> Result<Message, Refusal>
     ensures { result ≡ judged (turn_of u1 vw rr) }
 {
-    if vw % 64 <= 44 {
-        let u = u1 / 16;
-        Ok(Message::Turn {
-            degrees: whole_angle(u, vw % 64),
-            right: turns_right(u),
-            rudder: signed_byte(rr),
-        })
-    } else {
-        Err(out_of_range(1))
-    }
+    let u = u1 / 16;
+    at_most(1, 44, u32::from(vw % 64))?;
+    Ok(Message::Turn {
+        degrees: whole_angle(u, vw % 64),
+        right: turns_right(u),
+        rudder: signed_byte(rr),
+    })
 }

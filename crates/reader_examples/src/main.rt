@@ -8,7 +8,7 @@ ghost use Rattle.reader_examples.specs.Rows.{IsTable, refusal_in};
 use datagram::Refusal;
 use message::Message;
 
-// A datagram, and the number of the refusal that it gets; none where it reads.
+// A datagram, and the number of the refusal that it gets, which rules 12 tell; none where it reads.
 #[derive(Clone, Copy)]
 struct Row {
     bytes: &'static [u8],
@@ -83,7 +83,7 @@ fn main(rt: HostRuntime) {
 }
 
 // Reads each example, sees that its refusal is the expected one, and writes its line.
-fn show_all(rt: &HostRuntime, rows: &[Row])
+fn show_all(rt: &impl Print, rows: &[Row])
     requires { IsTable rows.now }
 {
     for (i, row) in rows.iter().enumerate() {
@@ -101,7 +101,7 @@ fn refusal_of(reading: Result<Message, Refusal>) -> Option<u8>
 }
 
 // A failed write is passed over.
-fn write_line(rt: &HostRuntime, number: usize, bytes: &[u8], reading: Result<Message, Refusal>) {
+fn write_line(rt: &impl Print, number: usize, bytes: &[u8], reading: Result<Message, Refusal>) {
     let _ = print!(rt; "E{number}");
     for b in bytes {
         let _ = print!(rt; " {b:02X}");

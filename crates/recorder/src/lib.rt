@@ -9,25 +9,26 @@ ghost use Rattle.recorder.specs.Recording.{all_symbols, file_of, record_written,
 
 use datagram::Refusal;
 use datagram::refusals::{DIFFERENT_LENGTHS, NO_ROOM, SYMBOL_ABOVE};
+use recording::MARK;
 
 // Writes one record from the position `at`, or gives refusal 1 or 8, in that order. Nothing else is changed.
+#[tactic(auto, unfolding(crate::specs::Recording::record_written))]
 pub fn write_record(time: u32, symbol: u16, buf: &mut [u8], at: usize) -> Result<usize, Refusal>
     ensures { outcome result buf.new ≡ record_written time symbol buf.old at }
 {
     if 511 < symbol {
         return Err(SYMBOL_ABOVE);
     }
-    if buf.len() < at {
-        return Err(NO_ROOM);
-    }
-    if buf.len() - at < 8 {
+    if buf.len() < at || buf.len() - at < 8 {
         return Err(NO_ROOM);
     }
     put_record(time, symbol, buf, at);
     Ok(8)
 }
 
-// Writes a record for each time and symbol from the position `at`, or gives refusal 11, 1 or 8, in that order.
+// Writes a record for each time and symbol from the position `at`, or gives refusal 11, 1 or 8, in that order. Two
+// lists and no list of pairs: that they differ in length is a rule's refusal.
+#[tactic(auto, unfolding(crate::specs::Recording::run_written))]
 pub fn write_records(
     times: &[u32],
     symbols: &[u16],
@@ -56,7 +57,8 @@ fn all_symbols(symbols: &[u16]) -> bool
 }
 
 // Stores the records at the front of the lent part: all, or none where there is no room. Room is counted in records, so that
-// 8 times their number is formed only where it is known to fit.
+// 8 times their number is formed only where it is known to fit. At positions: after a loop over the part's chunks nothing is known of
+// what the part has.
 fn put_records(times: &[u32], symbols: &[u16], part: &mut [u8]) -> Result<usize, Refusal>
     requires { length times.now ≡ length symbols.now }
     ensures { outcome result part.new ≡ stored_front (8 * length times.now) (file_of times.now symbols.now) part.old }
@@ -78,8 +80,8 @@ fn put_record(time: u32, symbol: u16, lent: &mut [u8], at: usize)
 {
     let [a, b, c, d] = time.to_le_bytes();
     let [low, high] = symbol.to_le_bytes();
-    lent[at] = 0x53;
-    lent[at + 1] = 0x54;
+    lent[at] = MARK[0];
+    lent[at + 1] = MARK[1];
     lent[at + 2] = a;
     lent[at + 3] = b;
     lent[at + 4] = c;

@@ -21,7 +21,7 @@ pub extern "C" fn recorder_records(times: &[u32], symbols: &[u16], buf: &mut [u8
     code_of(recorder::write_records(times, symbols, buf, at))
 }
 
-// The number of bytes stored, or 2^64 - 1 minus the refusal's number and 256 times its place.
+// The number of bytes stored, or 2^64 - 1 minus the refusal's number and 256 times its place, of which 24 bits are kept.
 #[tactic(auto, unfolding(crate::specs::Code::code_of))]
 fn code_of(w: Result<usize, Refusal>) -> u64
     ensures { result ≡ code_of w }

@@ -1,12 +1,14 @@
 // The recording reader: records of eight bytes, a mark, a time and a symbol.
 #![tactic(auto)]
 
-ghost use Rattle.std.specs.Prelude.{◌≡◌};
+ghost use Rattle.std.specs.Prelude.{◌≡◌, get_or};
 ghost use Rattle.recording.specs.Record.{record_of, judged_record};
 
 use datagram::Refusal;
 use datagram::refusals::{cut_short, no_mark, symbol_above_at};
-use number::{long_of, word_of};
+
+// The two bytes that each record begins with.
+pub const MARK: [u8; 2] = [0x53, 0x54];
 
 // One record: a symbol, and the time at which it was heard.
 #[derive(Clone, Copy)]
@@ -20,43 +22,28 @@ pub struct Record {
 pub fn record_at(bytes: &[u8], at: usize) -> Result<Option<Record>, Refusal>
     ensures { result ≡ record_of bytes.now at }
 {
-    let n = bytes.len();
-    if n < at {
-        return Err(cut_short(at));
+    match bytes.get(at..) {
+        None => Err(cut_short(at)),
+        Some([]) => Ok(None),
+        Some(&[mark, second, a, b, c, d, low, high, ..]) => judged(
+            at,
+            [mark, second],
+            u32::from_le_bytes([a, b, c, d]),
+            u16::from_le_bytes([low, high]),
+        ),
+        Some(_) => Err(cut_short(at)),
     }
-    if n == at {
-        return Ok(None);
-    }
-    if n - at < 8 {
-        return Err(cut_short(at));
-    }
-    judged(
-        at,
-        bytes[at],
-        bytes[at + 1],
-        long_of(bytes[at + 2], bytes[at + 3], bytes[at + 4], bytes[at + 5]),
-        word_of(bytes[at + 6], bytes[at + 7]),
-    )
 }
 
-// The record of a mark, a time and the symbol's word.
-fn judged(
-    at: usize,
-    mark: u8,
-    second: u8,
-    time: u32,
-    symbol: u32,
-) -> Result<Option<Record>, Refusal>
-    ensures { result ≡ judged_record at mark second time symbol }
+// The record of a mark, a time and a symbol.
+fn judged(at: usize, mark: [u8; 2], time: u32, symbol: u16) -> Result<Option<Record>, Refusal>
+    ensures { result ≡ judged_record at (get_or mark 0 0) (get_or mark 1 0) time symbol }
 {
-    if mark != 0x53 || second != 0x54 {
+    if mark != MARK {
         return Err(no_mark(at));
     }
     if 511 < symbol {
         return Err(symbol_above_at(at));
     }
-    Ok(Some(Record {
-        time,
-        symbol: symbol as u16,
-    }))
+    Ok(Some(Record { time, symbol }))
 }

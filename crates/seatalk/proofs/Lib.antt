@@ -4,4 +4,3 @@ pub mod Spelled
 pub mod Laws
 pub mod Kept
 pub mod Recorded
-pub mod Heard

@@ -7,7 +7,6 @@ mod record;
 mod write;
 
 ghost use Rattle.std.specs.Prelude.{◌≡◌, ◌+◌, ◌≤◌, length};
-ghost use Rattle.std.proofs.Math.Seq.{paste};
 ghost use Rattle.std.proofs.lemmas.List.Edits.{sets};
 ghost use Rattle.number.specs.Word.{long_bytes};
 ghost use Rattle.seatalk.specs.Returned.{returned, told, code_of};
@@ -60,30 +59,20 @@ fn told(stored: Result<u8, Refusal>) -> i32
     }
 }
 
-// Minus the number and 256 times the place.
+// Minus the number and 256 times the place, of which 23 bits are kept.
+#[tactic(auto, unfolding(crate::specs::Returned::code_of))]
 fn code_of(r: Refusal) -> i32
     ensures { result ≡ code_of r }
 {
-    let n = r.number as u32 + 256 * ((r.place % 8388608) as u32);
-    0 - n as i32
-}
-
-// Puts these bytes from a position on.
-fn put(lent: &mut [u8], at: usize, bytes: &[u8])
-    requires { at + length bytes.now ≤ length lent.old }
-    ensures { lent.new ≡ paste lent.old at bytes.now (length bytes.now) }
-{
-    lent[at..at + bytes.len()].copy_from_slice(bytes);
+    let n = u32::from(r.number) + 256 * ((r.place % 8388608) as u32);
+    -n.cast_signed()
 }
 
 // Puts the four bytes of 32 bits from a position on, low byte first.
+#[tactic(auto, using(crate::proofs::Laid::long_laid))]
 fn put_long(lent: &mut [u8], at: usize, n: u32)
     requires { at + 4 ≤ length lent.old }
     ensures { lent.new ≡ sets lent.old at (long_bytes n) }
 {
-    let [a, b, c, d] = n.to_le_bytes();
-    lent[at] = a;
-    lent[at + 1] = b;
-    lent[at + 2] = c;
-    lent[at + 3] = d;
+    lent[at..at + 4].copy_from_slice(&n.to_le_bytes());
 }

@@ -17,6 +17,7 @@ fn store_part(f: Fields, from: usize, end: usize, res: &mut [u8])
     requires { (f.count ≤ 12) × ((4 * f.count ≤ length res.old) × (AllFit (take f.count f.values) × ((from ≤ end) × (end ≤ f.count)))) }
     ensures { Grown f.values from res.old end res.new }
 {
+    // By index: of parts lent to an iterator nothing is known of the whole afterwards.
     for i in from..end {
         put_long(res, 4 * i, number::bits_of(f.values[i] as i32));
     }
@@ -27,7 +28,7 @@ fn store(f: Fields, res: &mut [u8])
     requires { (f.count ≤ 12) × ((4 * f.count ≤ length res.old) × AllFit (take f.count f.values)) }
     ensures { res.new ≡ fields_bytes (take f.count f.values) ++ drop (4 * f.count) res.old }
 {
-    let n = f.count as usize;
+    let n = usize::from(f.count);
     if n <= 6 {
         store_part(f, 0, n, res);
         return;

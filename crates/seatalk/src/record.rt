@@ -6,6 +6,7 @@ ghost use Rattle.seatalk.specs.Record.{record_call};
 use datagram::Refusal;
 use datagram::refusals::SYMBOL_ABOVE;
 
+#[tactic(auto, unfolding(crate::specs::Record::record_call))]
 pub fn record(time: u32, symbol: u32, res: &mut [u8]) -> Result<u8, Refusal>
     ensures { returned (told result) res.new ≡ record_call time symbol res.old }
 {

@@ -21,13 +21,13 @@ fn high_byte(s: u16) -> u8
     (s / 256) as u8
 }
 
-// Stores the first n symbols, 2 bytes each.
-fn store(symbols: &[u16], n: usize, res: &mut [u8])
-    requires { (n ≤ length symbols.now) × (2 * n ≤ length res.old) }
-    ensures { res.new ≡ symbols_bytes (take n symbols.now) ++ drop (2 * n) res.old }
+// Stores the symbols, 2 bytes each. The low byte by a cast: `to_le_bytes` takes three instructions more a symbol.
+fn store(symbols: &[u16], res: &mut [u8])
+    requires { 2 * length symbols.now ≤ length res.old }
+    ensures { res.new ≡ symbols_bytes symbols.now ++ drop (2 * length symbols.now) res.old }
 {
-    for i in 0..n {
-        let s = symbols[i];
+    // By index: of parts lent to an iterator nothing is known of the whole afterwards.
+    for (i, &s) in symbols.iter().enumerate() {
         res[2 * i] = (s % 256) as u8;
         res[2 * i + 1] = high_byte(s);
     }
@@ -43,7 +43,7 @@ fn put_symbols(m: Message, res: &mut [u8]) -> Result<u8, Refusal>
     if res.len() < size {
         return Err(NO_ROOM);
     }
-    store(&symbols, n, res);
+    store(&symbols[..n], res);
     Ok(size as u8)
 }
 

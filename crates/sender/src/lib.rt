@@ -22,7 +22,9 @@ pub enum Phase {
 }
 
 // A datagram on its way: 18 bytes with zeros past it, the position of the symbol whose echo is awaited, the wait before a
-// start, the limit of attempts, and the failures so far.
+// start, the limit of attempts, and the failures so far. An array, and numbers whatever the phase: there is no heap, and any 23 numbers are
+// a sender, of which `is_sound` tells. The calls that make an outcome are free functions: `offer`, `poll`, `echo`, `is_sound` and
+// `refused_offer` are public calls, which methods would say twice.
 #[derive(Clone, Copy)]
 pub struct Sender {
     pub phase: Phase,
@@ -33,7 +35,37 @@ pub struct Sender {
     pub failures: u8,
 }
 
-// What a poll or an echo answers.
+impl Sender {
+    // Whether the position and the failures are as the phase has them.
+    fn is_phase_sound(self) -> bool
+        ensures { result ≡ phase_sound self.phase self.position (length_of self) self.failures self.limit }
+    {
+        match self.phase {
+            Phase::Waiting => self.position == 0 && self.failures < self.limit,
+            Phase::Awaiting => self.position < self.length() && self.failures < self.limit,
+            Phase::Done => self.position == self.length() && self.failures < self.limit,
+            Phase::GaveUp => self.position == 0 && self.failures == self.limit,
+        }
+    }
+
+    // The number of bytes of the datagram.
+    fn length(self) -> u8
+        ensures { result ≡ length_of self }
+    {
+        3 + self.datagram[1] % 16
+    }
+
+    // The symbol at a position of the datagram.
+    fn symbol_at(self, position: u8) -> u16
+        requires { position < length_of self }
+        ensures { result ≡ symbol_at self position }
+    {
+        let byte = u16::from(self.datagram[usize::from(position)]);
+        if position == 0 { 256 + byte } else { byte }
+    }
+}
+
+// What a poll or an echo answers. A refusal is one of the answers, as in the definitions, which tell each case.
 #[derive(Clone, Copy)]
 pub enum Answer {
     // So many bit times are left to wait.
@@ -78,7 +110,7 @@ pub fn offer(bytes: &[u8], wait: u32, limit: u32) -> Offered
     } else {
         wait
     };
-    if wait < 10 || 255 < wait || limit < 1 || 50 < limit {
+    if !(10..=255).contains(&wait) || !(1..=50).contains(&limit) {
         return refused_offer(BAD_WAIT_OR_LIMIT);
     }
     Offered {
@@ -122,7 +154,7 @@ pub fn echo(s: Sender, symbol: u16) -> Outcome
         return answered(Answer::Refused(NOT_SOUND), s);
     }
     match s.phase {
-        Phase::Awaiting if symbol == symbol_at(s, s.position) => heard_right(s),
+        Phase::Awaiting if symbol == s.symbol_at(s.position) => heard_right(s),
         Phase::Awaiting => heard_wrong(s),
         Phase::Waiting | Phase::Done | Phase::GaveUp => answered(Answer::Ignored, s),
     }
@@ -136,38 +168,11 @@ pub fn is_sound(s: Sender) -> bool
     10 <= s.wait
         && 1 <= s.limit
         && s.limit <= 50
-        && datagram::zeros_from(&s.datagram, usize::from(length_of(s)))
-        && phase_sound(s)
+        && datagram::zeros_from(&s.datagram, usize::from(s.length()))
+        && s.is_phase_sound()
 }
 
-fn phase_sound(s: Sender) -> bool
-    ensures { result ≡ phase_sound s.phase s.position (length_of s) s.failures s.limit }
-{
-    match s.phase {
-        Phase::Waiting => s.position == 0 && s.failures < s.limit,
-        Phase::Awaiting => s.position < length_of(s) && s.failures < s.limit,
-        Phase::Done => s.position == length_of(s) && s.failures < s.limit,
-        Phase::GaveUp => s.position == 0 && s.failures == s.limit,
-    }
-}
-
-// The number of bytes of the datagram.
-fn length_of(s: Sender) -> u8
-    ensures { result ≡ length_of s }
-{
-    3 + s.datagram[1] % 16
-}
-
-// The symbol at a position of the datagram.
-fn symbol_at(s: Sender, position: u8) -> u16
-    requires { position < length_of s }
-    ensures { result ≡ symbol_at s position }
-{
-    let byte = u16::from(s.datagram[usize::from(position)]);
-    if position == 0 { 256 + byte } else { byte }
-}
-
-// Kept, since the literal takes four lines at each of its calls.
+// An outcome on one line; the literal takes four.
 fn answered(answer: Answer, sender: Sender) -> Outcome
     ensures { result ≡ outcome answer sender }
 {
@@ -215,7 +220,7 @@ fn started(s: Sender, silence: u32) -> Outcome
         position: 0,
         ..s
     };
-    answered(Answer::Send(symbol_at(s, 0)), next)
+    answered(Answer::Send(s.symbol_at(0)), next)
 }
 
 // The awaited symbol was heard.
@@ -228,7 +233,7 @@ fn heard_right(s: Sender) -> Outcome
         position: s.position + 1,
         ..s
     };
-    if next.position == length_of(s) {
+    if next.position == s.length() {
         return answered(
             Answer::Done,
             Sender {
@@ -237,7 +242,7 @@ fn heard_right(s: Sender) -> Outcome
             },
         );
     }
-    answered(Answer::Send(symbol_at(s, next.position)), next)
+    answered(Answer::Send(s.symbol_at(next.position)), next)
 }
 
 // Another symbol was heard: the whole datagram is sent again, or the sender gives up.

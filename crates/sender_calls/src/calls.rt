@@ -4,16 +4,19 @@ use crate::numbers::Numbers;
 use sender::{Answer, Offered, Outcome, Phase, Sender};
 
 pub fn called(command: Command, last: Outcome, n: &Numbers) -> Outcome {
-    let s = last.sender;
     match command {
-        Command::Poll | Command::QuietPoll => sender::poll(s, n.before, n.last),
-        Command::Echo | Command::QuietEcho => sender::echo(s, n.hex),
+        Command::Poll | Command::QuietPoll => sender::poll(last.sender, n.before, n.last),
+        Command::Echo | Command::QuietEcho => sender::echo(last.sender, n.hex),
         Command::Offer | Command::QuietOffer => offered(sender::offer(
             n.offered(),
             n.before,
             n.last,
         )),
-        Command::Key => offered(key_sender::send_key((n.before % 256) as u8, (n.hex % 256) as u8)),
+        Command::Key => {
+            let [source, ..] = n.before.to_le_bytes();
+            let [code, _] = n.hex.to_le_bytes();
+            offered(key_sender::send_key(source, code))
+        }
         Command::Fields => Outcome {
             answer: Answer::Ignored,
             sender: fields(&n.bytes),
@@ -22,7 +25,7 @@ pub fn called(command: Command, last: Outcome, n: &Numbers) -> Outcome {
     }
 }
 
-// A refused offer answers with its refusal.
+// A refused offer answers with its refusal. After an accepted one the answer is `Ignored`, which `{answer}` writes.
 fn offered(o: Offered) -> Outcome {
     let answer = match o.verdict {
         Ok(()) => Answer::Ignored,

@@ -19,13 +19,12 @@ pub enum Command {
     Whole,
     Hold,
     Back,
-    // changes nothing and writes nothing
-    Unknown,
 }
 
-impl From<u8> for Command {
-    fn from(letter: u8) -> Command {
-        match letter {
+impl Command {
+    // The command of a letter, if there is one. No TryFrom: there is nothing to tell of another letter.
+    pub fn of(letter: u8) -> Option<Command> {
+        let command = match letter {
             b'o' => Command::Offer,
             b'k' => Command::Key,
             b'p' => Command::Poll,
@@ -42,7 +41,8 @@ impl From<u8> for Command {
             b'w' => Command::Whole,
             b'h' => Command::Hold,
             b'b' => Command::Back,
-            _ => Command::Unknown,
-        }
+            _ => return None,
+        };
+        Some(command)
     }
 }

@@ -28,11 +28,11 @@ use std::io::Read;
 
 fn main(rt: HostRuntime) {
     let mut input = [0u8; 65536];
-    let mut out = Output::new(&rt);
+    let mut out = Output::new(rt.stdout());
     let mut script = Script::new();
     // As many reads as a 64-bit counter can count: nothing else says that the input ends.
     for _ in 0..u64::MAX {
-        let n = read_full(&rt, &mut input);
+        let n = read_full(&mut rt.stdin(), &mut input);
         if n == 0 {
             break;
         }
@@ -42,13 +42,13 @@ fn main(rt: HostRuntime) {
 }
 
 // Reads until the buffer is full, the input ends or a read fails, and gives how many bytes that were.
-// A loop, since read_to_end takes a heap and read_exact tells no count.
-fn read_full(rt: &HostRuntime, buf: &mut [u8]) -> usize
+// A loop: read_exact tells no count, and a block for each read would end the script where a read fails behind others.
+fn read_full(from: &mut impl Read, buf: &mut [u8]) -> usize
     ensures { result ≤ length buf.new }
 {
     let mut done = 0;
     while done < buf.len() {
-        match rt.stdin().read(&mut buf[done..]) {
+        match from.read(&mut buf[done..]) {
             Ok(0) => return done,
             Ok(n) => done += n,
             Err(_) => return done,

@@ -1,4 +1,4 @@
-// The numbers of a line, as they are read.
+// The numbers of a line, as they are read: an array and their number, since there is no heap.
 ghost use Rattle.std.specs.Prelude.{◌≡◌, ◌<◌, ◌≤◌, true, IfSome};
 
 #[derive(Clone, Copy)]
@@ -45,11 +45,13 @@ impl Numbers {
             self.count = (self.count + 1).min(24);
             self.reading = true;
         }
+        // Of a longer number the last ten digits count, modulo 2^32.
         self.last = (self.last % 1000000000)
             .wrapping_mul(10)
             .wrapping_add(u32::from(digit));
         self.hex = self.hex % 4096 * 16 + u16::from(digit);
-        self.bytes[self.count - 1] = (self.hex % 256) as u8;
+        let [low, _] = self.hex.to_le_bytes();
+        self.bytes[self.count - 1] = low;
     }
 
     // All but the last two.

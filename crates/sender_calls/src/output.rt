@@ -7,17 +7,17 @@ use std::io::Write;
 const ROOM: usize = 65536;
 
 #[derive(Drop)]
-pub struct Output<'a> {
-    rt: &'a HostRuntime,
+pub struct Output<W> {
+    to: W,
     buffer: [u8; ROOM],
     filled: usize,
     ghost within: { filled ≤ 65536 },
 }
 
-impl<'a> Output<'a> {
-    pub fn new(rt: &'a HostRuntime) -> Self {
+impl<W: Write> Output<W> {
+    pub fn new(to: W) -> Self {
         Output {
-            rt,
+            to,
             buffer: [0; ROOM],
             filled: 0,
         }
@@ -36,12 +36,12 @@ impl<'a> Output<'a> {
     pub fn flush(&mut self)
         ensures { self.new.filled ≡ 0 }
     {
-        let _ = Write::write_all(&mut self.rt.stdout(), &self.buffer[..self.filled]);
+        let _ = self.to.write_all(&self.buffer[..self.filled]);
         self.filled = 0;
     }
 }
 
-impl<'a> fmt::Write for Output<'a> {
+impl<W: Write> fmt::Write for Output<W> {
     fn write_str(&mut self, s: &str) -> fmt::Result {
         for b in s.as_bytes() {
             self.put(*b);

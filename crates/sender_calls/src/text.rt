@@ -1,11 +1,10 @@
 // What a command writes of the sender and of the answer.
 use crate::command::Command;
-use crate::output::Output;
 use sender::{Answer, Outcome, Sender};
 use std::fmt;
 use std::fmt::Write;
 
-pub fn show(command: Command, outcome: Outcome, out: &mut Output<'_>) -> fmt::Result {
+pub fn show(command: Command, outcome: Outcome, out: &mut impl Write) -> fmt::Result {
     let Outcome { answer, sender } = outcome;
     match command {
         Command::Poll | Command::Echo | Command::Answer => told(answer, "ignored", out),
@@ -22,8 +21,8 @@ pub fn show(command: Command, outcome: Outcome, out: &mut Output<'_>) -> fmt::Re
     }
 }
 
-// An offer that is not refused leaves the answer that nothing was done, which these words say.
-fn told(answer: Answer, ignored: &str, out: &mut Output<'_>) -> fmt::Result {
+// An accepted offer leaves the answer `Ignored`, for which the caller has the words.
+fn told(answer: Answer, ignored: &str, out: &mut impl Write) -> fmt::Result {
     match answer {
         Answer::Wait(left) => write!(out, "wait {left}"),
         Answer::Send(symbol) => write!(out, "send {symbol:03X}"),
@@ -36,14 +35,14 @@ fn told(answer: Answer, ignored: &str, out: &mut Output<'_>) -> fmt::Result {
     }
 }
 
-fn just(answer: Answer, out: &mut Output<'_>) -> fmt::Result {
+fn just(answer: Answer, out: &mut impl Write) -> fmt::Result {
     match answer {
         Answer::Send(symbol) => write!(out, "{symbol:03X}"),
         _ => Ok(()),
     }
 }
 
-fn place(answer: Answer, out: &mut Output<'_>) -> fmt::Result {
+fn place(answer: Answer, out: &mut impl Write) -> fmt::Result {
     match answer {
         Answer::Refused(r) => write!(out, " at {}", r.place),
         _ => Ok(()),
@@ -51,19 +50,19 @@ fn place(answer: Answer, out: &mut Output<'_>) -> fmt::Result {
 }
 
 // The first four bytes of the datagram, the wait and the limit.
-fn terms(s: Sender, out: &mut Output<'_>) -> fmt::Result {
+fn terms(s: Sender, out: &mut impl Write) -> fmt::Result {
     all(&s.datagram[..4], out)?;
     write!(out, ", wait {}, limit {}", s.wait, s.limit)
 }
 
 // The 23 numbers that `{fields}` takes.
-fn whole(s: Sender, out: &mut Output<'_>) -> fmt::Result {
+fn whole(s: Sender, out: &mut impl Write) -> fmt::Result {
     all(&[s.phase as u8], out)?;
     all(&s.datagram, out)?;
     all(&[s.position, s.wait, s.limit, s.failures], out)
 }
 
-fn all(bytes: &[u8], out: &mut Output<'_>) -> fmt::Result {
+fn all(bytes: &[u8], out: &mut impl Write) -> fmt::Result {
     for b in bytes {
         write!(out, " {b:02X}")?;
     }

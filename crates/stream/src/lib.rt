@@ -25,7 +25,8 @@ pub struct Pass {
 }
 
 // Lists the whole records of the first `filled` bytes, as long as the output has room for a line, and moves the bytes behind
-// those listed to the front of the buffer.
+// those listed to the front of the buffer. The progress, the base and the number filled are no struct: it is public with these arguments,
+// and `pass_of`, by which the laws of `listing_laws` speak of it, takes the progress and the base one by one.
 pub fn list_held(
     progress: Progress,
     base: u64,
@@ -39,6 +40,7 @@ pub fn list_held(
     list_first(progress, base, n, input, out)
 }
 
+// The same for n bytes that the buffer has.
 fn list_first(progress: Progress, base: u64, n: usize, input: &mut [u8], out: &mut [u8]) -> Pass
     requires { n ≤ length input.old }
     ensures { Filled (pass_of progress base (take n input.old) (length out.old)) input.old input.new out.old out.new result }

@@ -27,7 +27,7 @@ fn padded<const N: usize>(first: [i64; N]) -> Fields
     }
 }
 
-// The message's fields.
+// The message's fields. A public call, which a `From` would say twice.
 #[tactic(auto, unfolding(message::specs::Fields::fields_of))]
 pub fn fields_of(m: Message) -> Fields
     ensures { result ≡ array_of (fields_of m) }

@@ -9,6 +9,7 @@ ghost use Rattle.datagram.specs.Position.{outcome};
 ghost use Rattle.message.specs.Spelling.{bytes_of};
 ghost use Rattle.writer.specs.Writing.{store_of, write_of};
 
+use crate::store::store;
 use datagram::Refusal;
 use datagram::refusals::NO_ROOM;
 use message::Message;
@@ -26,7 +27,7 @@ pub fn write(m: Message, buf: &mut [u16], at: usize) -> Result<usize, Refusal>
     put(m, &mut buf[at..])
 }
 
-// Hands the lent part on to the kind's writer.
+// Stores the bytes of the message's kind.
 #[tactic(auto, unfolding(message::specs::Spelling::bytes_of))]
 fn put(m: Message, part: &mut [u16]) -> Result<usize, Refusal>
     ensures { outcome result part.new ≡ store_of (bytes_of m) part.old }
@@ -39,40 +40,43 @@ fn put(m: Message, part: &mut [u16]) -> Result<usize, Refusal>
             defective,
             deep,
             shallow,
-        } => kinds::depth(part, tenths, anchor, metric, defective, deep, shallow),
-        Message::WindAngle { halves } => kinds::wind_angle(part, halves),
-        Message::WindSpeed { tenths, metres } => kinds::wind_speed(part, tenths, metres),
-        Message::Speed { tenths } => kinds::word(part, 0x20, tenths),
-        Message::Trip { hundredths } => kinds::trip(part, hundredths),
-        Message::Total { tenths } => kinds::total(part, tenths),
-        Message::Logs { total, trip } => kinds::logs(part, total, trip),
+        } => store(
+            part,
+            kinds::depth(tenths, anchor, metric, defective, deep, shallow),
+        ),
+        Message::WindAngle { halves } => store(part, kinds::wind_angle(halves)),
+        Message::WindSpeed { tenths, metres } => store(part, kinds::wind_speed(tenths, metres)),
+        Message::Speed { tenths } => store(part, kinds::word(0x20, tenths)),
+        Message::Trip { hundredths } => store(part, kinds::trip(hundredths)),
+        Message::Total { tenths } => store(part, kinds::total(tenths)),
+        Message::Logs { total, trip } => store(part, kinds::logs(total, trip)),
         Message::Speeds {
             speed,
             average,
             valid,
             stopped,
             mph,
-        } => kinds::speeds(part, speed, average, valid, stopped, mph),
-        Message::Water { tenths } => kinds::water(part, tenths),
-        Message::Lamp { level } => kinds::lamp(part, level),
+        } => store(part, kinds::speeds(speed, average, valid, stopped, mph)),
+        Message::Water { tenths } => store(part, kinds::water(tenths)),
+        Message::Lamp { level } => store(part, kinds::lamp(level)),
         Message::Latitude {
             degrees,
             hundredths,
             south,
-        } => kinds::coordinate(part, 0x50, degrees, hundredths, south),
+        } => store(part, kinds::coordinate(0x50, degrees, hundredths, south)),
         Message::Longitude {
             degrees,
             hundredths,
             east,
-        } => kinds::coordinate(part, 0x51, degrees, hundredths, east),
-        Message::Ground { tenths } => kinds::word(part, 0x52, tenths),
-        Message::Course { halves } => kinds::course(part, halves),
+        } => store(part, kinds::coordinate(0x51, degrees, hundredths, east)),
+        Message::Ground { tenths } => store(part, kinds::word(0x52, tenths)),
+        Message::Course { halves } => store(part, kinds::course(halves)),
         Message::Time {
             hours,
             minutes,
             seconds,
-        } => kinds::time(part, hours, minutes, seconds),
-        Message::Date { month, day, year } => kinds::date(part, month, day, year),
+        } => store(part, kinds::time(hours, minutes, seconds)),
+        Message::Date { month, day, year } => store(part, kinds::date(month, day, year)),
         Message::Pilot {
             degrees,
             right,
@@ -85,20 +89,23 @@ fn put(m: Message, part: &mut [u16]) -> Result<usize, Refusal>
             rudder,
             ss,
             tt,
-        } => kinds::pilot(
-            part, degrees, right, course, auto, vane, track, off_course, wind_shift, rudder, ss, tt,
+        } => store(
+            part,
+            kinds::pilot(
+                degrees, right, course, auto, vane, track, off_course, wind_shift, rudder, ss, tt,
+            ),
         ),
-        Message::Key { source, code } => kinds::key(part, source, code),
+        Message::Key { source, code } => store(part, kinds::key(source, code)),
         Message::Heading {
             halves,
             reference,
             locked,
-        } => kinds::heading(part, halves, reference, locked),
-        Message::Variation { east } => kinds::variation(part, east),
+        } => store(part, kinds::heading(halves, reference, locked)),
+        Message::Variation { east } => store(part, kinds::variation(east)),
         Message::Turn {
             degrees,
             right,
             rudder,
-        } => kinds::turn(part, degrees, right, rudder),
+        } => store(part, kinds::turn(degrees, right, rudder)),
     }
 }

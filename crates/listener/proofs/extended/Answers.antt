@@ -6,14 +6,14 @@ use mathlib.Core.List.{List, [], ◌∷◌, ◌++◌}
 use native.Mathlib.Omega.{arith}
 use lib.Dec.{eqb}
 use lib.ListN.{length, get_or, set, length-append}
-use borrow.Author.Tests.{eq-eqb, ne_eqb}
+use borrow.Author.Tests.{ne_eqb}
 use Rattle.datagram.specs.Whole.{declared}
 use Rattle.datagram.specs.Padding.{pad_to}
 use Rattle.datagram.proofs.Padding.{set_pad, get_d_pad}
 use Rattle.listener.specs.declared.Listener.{Listener}
 use Rattle.listener.specs.declared.Answer.TheVariants.{Kept}
 use Rattle.listener.specs.State.{held_bytes, holding}
-use Rattle.listener.specs.Step.{other_symbol, quiet, handed}
+use Rattle.listener.specs.Step.{other_symbol, quiet}
 use Rattle.listener.proofs.Sound.{held_by, Held}
 use Rattle.listener.proofs.Started.{other_reaches}
 use Rattle.listener.proofs.extended.Goals as goal
@@ -38,13 +38,9 @@ module _ (l : Listener) (b : ℕ) (k : Held l) where
       let count : length (held_bytes l ++ (b ∷ [])) ≡ l.held + 1 = simp (length-append, k.count) in
       rw (bytes, count)
 
-  hands_out : 0 < l.held → l.held + 1 ≡ declared (get_or l.bytes 1 0) → handed (held_bytes l ++ (b ∷ [])) ≡ other_symbol (held_bytes l) b
-  hands_out some at_end =
-      rw (other_reaches (held_bytes l) b (omega arith), test, eq-eqb (l.held + 1) (declared (get_or l.bytes 1 0)) at_end)
-
-  keeps : 0 < l.held → (l.held + 1 ≡ declared (get_or l.bytes 1 0) → ⊥) → quiet Kept (record { bytes = set l.bytes l.held b; held = l.held + 1 }) ≡ other_symbol (held_bytes l) b
-  keeps some before-end =
-      rw (other_reaches (held_bytes l) b (omega arith), test, ne_eqb (l.held + 1) (declared (get_or l.bytes 1 0)) before-end)
+  keeps : (i : ℕ) → i ≡ l.held → 0 < l.held → (l.held + 1 ≡ declared (get_or l.bytes 1 0) → ⊥) → quiet Kept (record { bytes = set l.bytes i b; held = l.held + 1 }) ≡ other_symbol (held_bytes l) b
+  keeps i same some before-end =
+      rw (same, other_reaches (held_bytes l) b (omega arith), test, ne_eqb (l.held + 1) (declared (get_or l.bytes 1 0)) before-end)
       (ap (λ (s : Listener). quiet Kept s) (next (omega (arith, k))))
 
 known : (c : goal.Start) → Held c.args.l
@@ -53,19 +49,12 @@ known c = held_by c.args.l (search rules) c.requires.0
 pub overflow_add-l : goal.overflow_add-l
 overflow_add-l c = omega (arith, known (goal.at.overflow_add-l c).Start)
 
-pub handed_out-requires : goal.handed_out-requires
-handed_out-requires c = omega (arith, known (goal.at.handed_out-requires c).Start)
-
-pub returns-then-l : goal.returns-then-l
-returns-then-l c =
-    c.handed_out.ensures ∙ hands_out c.args.l c.args.byte (known (goal.at.returns-then-l c).Start) c.requires.1 (omega arith)
-
-pub bounds-next-l : goal.bounds-next-l
-bounds-next-l c = omega (arith, known (goal.at.bounds-next-l c).Start)
+pub bounds-next-from : goal.bounds-next-from
+bounds-next-from c = omega (arith, known (goal.at.bounds-next-from c).Start)
 
 pub overflow_add-next : goal.overflow_add-next
 overflow_add-next c = omega (arith, known (goal.at.overflow_add-next c).Start)
 
 pub returns : goal.returns
 returns c =
-    c.without_bytes.ensures ∙ keeps c.args.l c.args.byte (known (goal.at.returns c).Start) c.requires.1 c.if-l.false
+    c.without_bytes.ensures ∙ keeps c.args.l c.args.byte (known (goal.at.returns c).Start) c.from.result c.from.ensures c.requires.1 c.if-l.false

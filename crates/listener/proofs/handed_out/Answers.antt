@@ -24,4 +24,4 @@ returns c =
     let count : length (held_bytes l) ≡ l.held = length-take-le l.held l.bytes (omega arith) in
     let more : length (held_bytes l ++ (b ∷ [])) ≡ l.held + 1 = simp (length-append, count) in
     let padded : held_bytes l ++ drop l.held (replicate 18 0) ≡ pad_to 18 (held_bytes l) = over_zeros 18 (held_bytes l) l.held count in
-    rw (c.empty_listener.ensures, c.copy_from_slice.ensures.after, more, ← set_pad 18 (held_bytes l) l.held b count (omega arith), ← padded)
+    rw (c.empty_listener.ensures, c.copy_from_slice.ensures.after, c.from-held.ensures, more, ← set_pad 18 (held_bytes l) l.held b count (omega arith), ← padded)

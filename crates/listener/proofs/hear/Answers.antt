@@ -1,11 +1,11 @@
 -- `hear` makes the definition's tests in the definition's order; a stray leaves the state, which is sound and so the empty one.
 use borrow.Author.Rules.{rules}
 use borrow.Author.Tests.{le-leb, lt-leb}
-use Prim.Native.Nat.{ℕ}
+use Prim.Native.Nat.{ℕ, ◌-◌}
 use mathlib.Core.Bool.{true, false}
 use mathlib.Core.Path.{◌≡◌, sym, ◌∙◌, ap}
 use native.Mathlib.Omega.{arith}
-use lib.ListN.{length}
+use lib.ListN.{length, get_or}
 use Rattle.listener.specs.declared.Listener.{Listener}
 use Rattle.listener.specs.declared.Answer.TheVariants.{Stray}
 use Rattle.listener.specs.State.{sound, held_bytes, empty_listener}
@@ -31,7 +31,7 @@ steps c = let a = c.args in step_taken a.l a.symbol (omega arith) (past_sound c)
 -- past the command symbols it is another symbol's
 others : (c : goal.Else-symbol-ge256) → let a = c.args in hear_of a.l a.symbol ≡ other_symbol (held_bytes a.l) a.symbol
 unfolding step
-others c = steps c.before ∙ rw (lt-leb 256 c.args.symbol (omega arith))
+others c = steps c.before.before ∙ rw (lt-leb 256 c.args.symbol (omega arith))
 
 pub returns-then-symbol-gt511 : goal.returns-then-symbol-gt511
 returns-then-symbol-gt511 c =
@@ -47,15 +47,15 @@ returns-then-not-is_sound c =
 pub returns-then-symbol-ge256 : goal.returns-then-symbol-ge256
 unfolding step
 returns-then-symbol-ge256 c =
-    c.opened.ensures ∙ sym (steps (goal.at.returns-then-symbol-ge256 c).Else-not-is_sound ∙ rw (le-leb 256 c.args.symbol (omega arith)))
+    let byte : get_or c.to_le_bytes.result 0 0 ≡ c.args.symbol - 256 = rw c.to_le_bytes.ensures (omega arith) in
+    rw byte at c.opened.ensures ∙ sym (steps (goal.at.returns-then-symbol-ge256 c).Else-not-is_sound ∙ rw (le-leb 256 c.args.symbol (omega arith)))
 
 pub returns-then-l-eq0 : goal.returns-then-l-eq0
 returns-then-l-eq0 c =
     let a = c.args in
     c.without_bytes.ensures ∙ strays a.l a.symbol (search rules) (past_sound (goal.at.returns-then-l-eq0 c).Else-not-is_sound) (omega arith) ∙ sym (others (goal.at.returns-then-l-eq0 c).Else-symbol-ge256)
 
-pub extended-requires : goal.extended-requires
-extended-requires c = (past_sound (goal.at.extended-requires c).Else-not-is_sound, search rules)
-
 pub returns : goal.returns
-returns c = c.extended.ensures ∙ sym (others (goal.at.returns c).Else-symbol-ge256)
+returns c =
+    let byte : get_or c.to_le_bytes.result 0 0 ≡ c.args.symbol = rw c.to_le_bytes.ensures (omega arith) in
+    rw byte at c.extended.ensures ∙ sym (others (goal.at.returns c).Else-symbol-ge256)

@@ -1,7 +1,7 @@
 -- `write_record` judges the symbol and the room, and stores the record from the position on.
 use Rattle.std.specs.Prelude.{Ok}
-use borrow.Author.Tests.{le-leb, lt-leb}
-use mathlib.Core.Path.{refl, ap, ◌∙◌}
+use borrow.Author.Tests.{le-leb}
+use mathlib.Core.Path.{ap, ◌∙◌}
 use mathlib.Core.List.{append_assoc}
 use Prim.Native.Nat.{◌+◌, ◌-◌}
 use native.Mathlib.Omega.{arith}
@@ -11,23 +11,6 @@ use Rattle.datagram.specs.Position.{outcome}
 use Rattle.recording.specs.Record.{record_bytes}
 use Rattle.recorder.specs.Recording.{record_written}
 use Rattle.recorder.proofs.write_record.Goals as goal
-
-pub returns-then-symbol-gt511 : goal.returns-then-symbol-gt511
-unfolding record_written
-returns-then-symbol-gt511 c = let a = c.args in rw (lt-leb a.symbol 511 (omega arith)) refl
-
-pub returns-then-buf-at : goal.returns-then-buf-at
-unfolding record_written
-returns-then-buf-at c =
-    let a = c.args in
-    rw (le-leb a.symbol 511 (omega arith), lt-leb a.at (length a.buf.now) (omega arith)) refl
-
-pub returns-then-buf-at-lt8 : goal.returns-then-buf-at-lt8
-unfolding record_written
-returns-then-buf-at-lt8 c =
-    let a = c.args in
-    let room = length a.buf.now in
-    rw (le-leb a.symbol 511 (omega arith), le-leb a.at room (omega arith), lt-leb 8 (room - a.at) (omega arith)) refl
 
 pub returns : goal.returns
 unfolding record_written

@@ -1,4 +1,5 @@
 -- `answer` stores both where the definition does, and else only answers the refusal.
+use borrow.Author.Rules.{rules}
 use mathlib.Core.Path.{sym, ap, ◌∙◌}
 use Rattle.listener.specs.declared.Heard.{Heard}
 use Rattle.seatalk.specs.Hear.{number_of}
@@ -9,4 +10,4 @@ pub put_next-requires : goal.put_next-requires
 put_next-requires c =
     let a = c.args in
     let p = c.requires in
-    (p.0, λ e. rw p.1 (one_longer a.state.now a.symbol p.0 (ap number_of (ap (λ (h : Heard). h.answer) (sym p.1) ∙ e))))
+    λ e. rw (p, c.to_le_bytes.ensures) (one_longer a.state.now a.symbol (search rules) (ap number_of (ap (λ (h : Heard). h.answer) (sym p) ∙ e)))

@@ -1,15 +1,9 @@
 -- `record` refuses the symbol, and else returns what the recording writer did at the front of the result.
-use borrow.Author.Tests.{lt-ltb}
-use mathlib.Core.Path.{refl, ap, ◌∙◌}
+use mathlib.Core.Path.{ap, ◌∙◌}
 use native.Mathlib.Omega.{arith}
 use Rattle.std.proofs.lemmas.Result.{err_from_is_err_and}
-use Rattle.seatalk.specs.Record.{record_call}
 use Rattle.seatalk.proofs.Recorded.{shown, recorded, eight}
 use Rattle.seatalk.proofs.record.record.Goals as goal
-
-pub returns-then-symbol-gt511 : goal.returns-then-symbol-gt511
-unfolding record_call
-returns-then-symbol-gt511 c = rw (lt-ltb 511 c.args.symbol c.if-symbol-gt511.true) refl
 
 pub overflow_cast-result : goal.overflow_cast-result
 overflow_cast-result c =

@@ -12,4 +12,4 @@ returns c =
     let kept = rw c.keep.ensures at c.keep.new.self.kept in
     let stored : c.put_bytes.new.out ≡ sets out c.args.at (take 6 digits) =
     c.put_bytes.ensures.stored ∙ ap (sets out c.args.at) (sym (six digits (omega (arith, kept.long)))) in
-    time_put kept c.if-self-lt2.false (omega (arith, c.ranges.time)) stored (rw c.from-last.ensures at (put_then c.put_pair-p.ensures c.put_pair.ensures))
+    time_put kept c.if-time-lt100000.false (omega (arith, c.ranges.time)) stored (rw c.from-last.ensures at (put_then c.put_pair-p.ensures c.put_pair.ensures))
