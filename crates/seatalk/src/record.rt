@@ -1,4 +1,5 @@
-// A time and a symbol as the eight bytes of a record.
+// A time and a symbol as the eight bytes of a record. The symbol is tested and cast as in `hear`: a function for both would want a law
+// of its own, which is longer than the two lines.
 ghost use Rattle.std.specs.Prelude.{◌≡◌};
 ghost use Rattle.seatalk.specs.Returned.{returned, told};
 ghost use Rattle.seatalk.specs.Record.{record_call};

@@ -56,7 +56,8 @@ fn list_first(progress: Progress, base: u64, n: usize, input: &mut [u8], out: &m
     }
 }
 
-// Puts the last lines where the recording ends with these bytes not listed: none, or a record cut short.
+// Puts the last lines where the recording ends with these bytes not listed: none, or a record cut short. It gives 0 where there is no
+// room, as `put_end` does.
 pub fn put_last(progress: Progress, base: u64, rest: &[u8], out: &mut [u8]) -> usize
     ensures { ◌≡◌ {A = Stored} (record { buffer = out.new; count = result }) (stored_text (end_text progress (placed_from base (cut_off (record_of rest.now 0)))) out.old) }
 {
