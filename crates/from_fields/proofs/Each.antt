@@ -5,7 +5,7 @@ use Prim.Native.Nat.{ℕ, suc, ◌+◌, ◌*◌, ◌≤◌, ◌<◌}
 use native.Mathlib.Nat.{mul-zero, mul-suc}
 use native.Mathlib.Numerals.{add-one}
 use native.Mathlib.Omega.{arith}
-use lib.ListN.{length, get_or, take, drop, length-append, length-drop}
+use lib.ListN.{length, get_or, take, drop, length-append}
 use lib.Seq.{take-suc, length-take-le, sets}
 use Rattle.datagram.proofs.Lent.{grown}
 use Rattle.from_fields.specs.Numbers.{each}
@@ -27,9 +27,6 @@ module _ {A : Type 0} (f : A → List ℕ) (k : ℕ) (sized : (x : A) → length
   module _ (xs : List A) (i : ℕ) (l : List ℕ) where
     front : i ≤ length xs → length (each f (take i xs)) ≡ k * i
     front h = each_length (take i xs) ∙ ap (λ (n : ℕ). k * n) (length-take-le i xs h)
-
-    pub front_length : i ≤ length xs → k * i ≤ length l → length (each f (take i xs) ++ drop (k * i) l) ≡ length l
-    front_length h room = let n = front h in simp (length-append, length-drop) (omega arith)
 
     -- one more is stored after them
     pub one_more : (d : A) → i < length xs → k * (i + 1) ≤ length l
