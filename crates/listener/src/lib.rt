@@ -125,7 +125,8 @@ fn extended(l: Listener, byte: u8) -> Heard
     }
     let mut next = l;
     next.bytes[usize::from(l.held)] = byte;
-    next.held += 1;
+    // Of `l`, since `next.held` would be read back behind the store at an index: 32 bytes of stack more.
+    next.held = l.held + 1;
     without_bytes(Answer::Kept, next)
 }
 
