@@ -30,7 +30,7 @@ impl Fields for i32 {
 
     fn put(self, out: &mut [u8], at: usize) -> usize {
         out[at] = b' ';
-        let size = u64::from(self.unsigned_abs());
+        let size = number::magnitude(i64::from(self));
         if self < 0 {
             out[at + 1] = b'-';
             put_decimal(out, at + 2, size)

@@ -48,7 +48,7 @@ pub fn negated_byte(b: u8) -> i32
     -signed_byte(b)
 }
 
-// How far a number is from 0; the lowest one too, whose negative does not fit. Public, though nothing here calls it.
+// How far a number is from 0; the lowest one too, whose negative does not fit.
 pub fn magnitude(z: i64) -> u64
     ensures { result ≡ nat_abs z }
 {
