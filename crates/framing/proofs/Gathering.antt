@@ -28,7 +28,7 @@ carried s at command h first second low high =
     rw (le-leb at (length s) (omega arith), ne_eqb (length s) at (λ e. omega arith), le-leb 8 (length s - at) (omega arith), first, second, symbol, le-leb (256 * num command + byte_of s at 6) 511 (omega (arith, n.1)))
 
 -- a byte without the command bit
-plain : {b : ℕ} → 256 * 0 + b ≡ b
+pub plain : {b : ℕ} → 256 * 0 + b ≡ b
 plain {b} = omega arith
 
 -- the first i records carry these bytes, the first with the command bit

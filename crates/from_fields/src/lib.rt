@@ -22,7 +22,7 @@ pub fn message_of(command: u32, fields: &[u8]) -> Result<Message, Refusal>
 }
 
 // The same by the row that the command was found at.
-#[tactic(auto, using(crate::proofs::Flags::bad_inside))]
+#[tactic(auto, using(crate::proofs::Flags::bad_in_bytes))]
 fn message_as(found: Option<Row>, fields: &[u8]) -> Result<Message, Refusal>
     ensures { result ≡ named_as found fields.now }
 {

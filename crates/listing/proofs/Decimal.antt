@@ -53,7 +53,7 @@ length_by (suc k) (suc fuel) n later f l h =
     let t : 10 ≤ n = omega (arith, to_most k) in
     rw (le-ltb n 10 t) (length_by k fuel (n / 10) ((48 + n % 10) ∷ later) (omega arith) (from_next k n l) (omega arith) ∙ omega arith)
 
-decimal_length : (k n : ℕ) → k < 20 → from k ≤ n → n < to k → suc k ≡ length (decimal n)
+pub decimal_length : (k n : ℕ) → k < 20 → from k ≤ n → n < to k → suc k ≡ length (decimal n)
 unfolding decimal
 decimal_length k n f l h = omega (arith, length_by k 20 n [] f l h)
 

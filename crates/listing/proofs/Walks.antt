@@ -50,7 +50,7 @@ module _ {s before out : List ℕ} {begin p : Progress} {n left at written : ℕ
       })
 
   -- so many records more, behind their text
-  went : (used : ℕ) (text : List ℕ) (q : Progress) (later : List ℕ) (written' : ℕ)
+  pub went : (used : ℕ) (text : List ℕ) (q : Progress) (later : List ℕ) (written' : ℕ)
       → walk_from line_of left s at p (length before - written) ≡ behind text (walk_from line_of (left - used) s (at + 8 * used) q (length before - written - length text))
       → used ≤ left → length text ≤ 512 → 512 ≤ length before - written → Put out written text later written'
       → Going s before begin n later q (left - used) (at + 8 * used) written'

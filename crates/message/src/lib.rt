@@ -4,7 +4,7 @@
 pub mod range;
 
 ghost use Rattle.std.specs.Prelude.{◌≡◌};
-ghost use Rattle.message.specs.Table.{row_of, find_of};
+ghost use Rattle.message.specs.Table.{row_of, kinds, find_of};
 ghost use Rattle.message.specs.Fields.{kind_of, command_of};
 
 // `find`, `row_of`, `kind_of` and `command_of` are free functions: public calls, which methods would say twice.
@@ -271,6 +271,20 @@ const TURN: Row = Row {
     length: 4,
     kind: Kind::Turn,
 };
+
+// The one table of kinds, in the order of their commands.
+pub const KINDS: [Row; 21] = [
+    DEPTH, WIND_ANGLE, WIND_SPEED, SPEED, TRIP, TOTAL, LOGS, SPEEDS, WATER, LAMP, LATITUDE,
+    LONGITUDE, GROUND, COURSE, TIME, DATE, PILOT, KEY, HEADING, VARIATION, TURN,
+];
+
+// The table as an array. Nothing calls it: its contract holds the constant to the definition.
+#[tactic(auto, unfolding(crate::specs::Table::kinds))]
+fn rows() -> [Row; 21]
+    ensures { result ≡ kinds }
+{
+    KINDS
+}
 
 // The table by the command: each command stands here again, beside its row, and the contract holds the two together.
 #[tactic(auto, unfolding(crate::specs::Table::kinds, crate::specs::Table::find_of))]

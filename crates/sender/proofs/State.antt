@@ -14,7 +14,7 @@ unfolding pad_to
 into_zeros n xs = rw drop-replicate
 
 -- the declared length is 3 to 18, and the second byte is among those taken
-always_whole : (s : Sender) → length s.datagram ≡ 18 → whole (bytes_of s) ≡ true
+pub always_whole : (s : Sender) → length s.datagram ≡ 18 → whole (bytes_of s) ≡ true
 unfolding whole
 always_whole s long = grind (arith, common_steps)
 
