@@ -49,16 +49,11 @@ pub fn write_records(
     put_records(times, symbols, &mut buf[at..])
 }
 
-// Whether every number is a symbol. By index: an iterator's `all` takes three times the time.
+// Whether every number is a symbol.
 fn all_symbols(symbols: &[u16]) -> bool
     ensures { result ≡ all_symbols symbols.now }
 {
-    for i in 0..symbols.len() {
-        if 511 < symbols[i] {
-            return false;
-        }
-    }
-    true
+    symbols.iter().all(|&symbol| symbol < 512)
 }
 
 // Stores the records at the front of the lent part: all, or none where there is no room. Room is counted in records, so that
